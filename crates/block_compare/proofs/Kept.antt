@@ -13,14 +13,14 @@ use Rattle.v_design.specs.States.{State, LaterUpdate, found_or, process_at}
 use Rattle.v_design.specs.declared.plan.Update.{Update}
 use Rattle.copy_laws.specs.Differences.{own_of}
 use Rattle.copy_between.specs.Differing.{IsDifference}
-use Rattle.moment_parts.specs.Lanes.{lanes_left, later_lists}
+use Rattle.moment_shown.specs.moment_parts.Lanes.{lanes_left, later_lists}
 use Rattle.block_told.specs.declared.told.BlockTold.{BlockTold}
-use Rattle.lockstep_compare.specs.Among.{AreKeptAmong, AreWritesKeptAmong, KeepsValuesAlone}
-use Rattle.lockstep_compare.specs.Compared.{IsKeptBehind, writes_in}
-use Rattle.lockstep_copy.specs.Kept.{TellsWrites, kept_by}
-use Rattle.lockstep_copy.specs.declared.own.LockstepCopy.{LockstepCopy}
+use Rattle.moment_shown.specs.lockstep_compare.Among.{AreKeptAmong, AreWritesKeptAmong, KeepsValuesAlone}
+use Rattle.moment_shown.specs.lockstep_compare.Compared.{IsKeptBehind, writes_in}
+use Rattle.moment_shown.specs.lockstep_copy.Kept.{TellsWrites, kept_by}
+use Rattle.moment_shown.specs.lockstep_copy.declared.own.LockstepCopy.{LockstepCopy}
 use Rattle.lockstep_index.specs.Writes.{OwnWrites}
-use Rattle.lockstep_room.specs.Rooms.{lane_numbers}
+use Rattle.moment_shown.specs.lockstep_exchange.Putting.{lane_numbers}
 use Rattle.moment_shown.specs.declared.shown.ShownBlock.{ShownBlock}
 use Rattle.moment_shown.specs.declared.shown.ShownMoment.{ShownMoment}
 use Rattle.moment_shown.specs.Shown.{Shows}

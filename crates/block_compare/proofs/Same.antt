@@ -21,10 +21,10 @@ use Rattle.process_code.specs.Points.{activity_of}
 use Rattle.process_code.specs.declared.code.Code.{Code}
 use Rattle.process_code.specs.declared.state.ProcState.{ProcState}
 use Rattle.run_ends.specs.RunEnds.{IsCodeAt}
-use Rattle.moment_parts.specs.Lanes.{lane_left}
+use Rattle.moment_shown.specs.moment_parts.Lanes.{lane_left}
 use Rattle.block_told.specs.declared.told.BlockTold.{BlockTold}
-use Rattle.lockstep_compare.specs.Among.{AreComparable}
-use Rattle.lockstep_room.specs.Rooms.{lane_numbers}
+use Rattle.moment_shown.specs.lockstep_compare.Among.{AreComparable}
+use Rattle.moment_shown.specs.lockstep_exchange.Putting.{lane_numbers}
 use Rattle.moment_shown.specs.declared.shown.ShownBlock.{ShownBlock}
 use Rattle.moment_shown.specs.declared.shown.ShownMoment.{ShownMoment}
 use Rattle.moment_shown.specs.Shown.{Shows}

@@ -9,12 +9,13 @@ use Rattle.process_code.specs.declared.code.Code.{Code}
 use Rattle.run_ends.specs.RunEnds.{IsCodeAt}
 use Rattle.copy_laws.specs.Moves.{Parts}
 use Rattle.block_told.specs.declared.told.BlockTold.{BlockTold}
-use Rattle.lockstep_compare.specs.Compared.{IsKeptBehind}
-use Rattle.lockstep_copy.specs.Kept.{kept_by}
-use Rattle.lockstep_copy.specs.declared.own.LockstepCopy.{LockstepCopy}
-use Rattle.lockstep_exchange.specs.Exchange.{AreWide}
+use Rattle.moment_shown.specs.lockstep_compare.Compared.{IsKeptBehind}
+use Rattle.moment_shown.specs.lockstep_copy.Kept.{kept_by}
+use Rattle.moment_shown.specs.lockstep_copy.declared.own.LockstepCopy.{LockstepCopy}
+use Rattle.moment_shown.specs.lockstep_exchange.Exchange.{AreWide}
 use Rattle.lockstep_room.specs.declared.counts.Counts.{Counts}
-use Rattle.lockstep_room.specs.Rooms.{AreCounts, lane_numbers}
+use Rattle.lockstep_room.specs.Rooms.{AreCounts}
+use Rattle.moment_shown.specs.lockstep_exchange.Putting.{lane_numbers}
 use Rattle.moment_shown.specs.declared.shown.ShownBlock.{ShownBlock}
 use Rattle.moment_shown.specs.declared.shown.ShownMoment.{ShownMoment}
 use Rattle.moment_shown.specs.Shown.{Shows}

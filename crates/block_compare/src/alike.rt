@@ -4,15 +4,15 @@ ghost use Rattle.std.specs.Prelude.{◌≡◌, ◌<◌, ◌||◌, ◌∷◌, [],
 ghost use Rattle.vf_base.specs.Base.{object_number, process_number};
 ghost use Rattle.vf_base.specs.Lists.{has};
 ghost use Rattle.v_design.specs.States.{State};
-ghost use Rattle.block_events.specs.Runners.{IsWhole, machine_of, state_of};
-ghost use Rattle.lockstep_room.specs.Rooms.{lane_numbers};
+ghost use Rattle.runner_writes.specs.block_events.Runners.{IsWhole, machine_of, state_of};
+ghost use Rattle.moment_shown.specs.lockstep_exchange.Putting.{lane_numbers};
 ghost use Rattle.moment_shown.specs.Shown.{Shows};
 ghost use Rattle.block_compare.specs.Comparing.{ActsAlike, DoesSame, GoAlike, IsShownOf, MayCompare};
 
-use block_events::Runner;
 use block_told::BlockTold;
 use lockstep_room::Counts;
 use moment_shown::{ShownBlock, ShownMoment};
+use runner_writes::Runner;
 use vf_base::{ObjectId, ProcId};
 
 /// Whether a process is in a list.

@@ -2,21 +2,20 @@
 
 ghost use Rattle.std.specs.Prelude.{◌≡◌, ◌<◌, true, IfOk, ℕ};
 ghost use Rattle.vf_base.specs.Lists.{has};
-ghost use Rattle.block_events.specs.Runners.{IsWhole, machine_of, state_of};
-ghost use Rattle.lockstep_compare.specs.Among.{AreWritesKeptAmong};
-ghost use Rattle.lockstep_room.specs.Rooms.{lane_numbers};
+ghost use Rattle.runner_writes.specs.block_events.Runners.{IsWhole, machine_of, state_of};
+ghost use Rattle.moment_shown.specs.lockstep_compare.Among.{AreWritesKeptAmong};
+ghost use Rattle.moment_shown.specs.lockstep_exchange.Putting.{lane_numbers};
 ghost use Rattle.v_design.specs.States.{State};
 ghost use Rattle.moment_shown.specs.Shown.{Shows};
 ghost use Rattle.block_compare.specs.Comparing.{Compares, MayCompare};
 
 use crate::alike::go_alike;
-use block_events::Runner;
 use block_told::BlockTold;
-use lockstep_compare::{Processes, keep_all_writes, keep_values};
-use lockstep_copy::LockstepCopy;
 use lockstep_room::Counts;
-use moment_shown::{ShownBlock, ShownMoment};
-use runner_writes::RunnerWrites;
+use moment_shown::{
+    LockstepCopy, Processes, ShownBlock, ShownMoment, keep_all_writes, keep_values,
+};
+use runner_writes::{Runner, RunnerWrites};
 use std::alloc::Global;
 use vf_base::{NoMemory, ProcId};
 

@@ -9,3 +9,9 @@ mod alike;
 mod compare;
 
 pub use compare::compare_block;
+pub use lockstep_room::{Counts, bring, follow, stand};
+pub use moment_shown::{
+    LockstepCopy, ShownBlock, ShownMoment, begin_slot, comparisons_tell, kept_ends,
+    lanes_tell_turns, put_in, take_out, turn_writes,
+};
+pub use runner_writes::Runner;

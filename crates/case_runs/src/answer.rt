@@ -7,9 +7,8 @@ use std::alloc::{AllocError, Global};
 use std::marker::Brand;
 use std::sync::ledger::{Blank, Ledger};
 use std::thread::Threads;
-use top_call::{COUNTERS, counters, vfault};
+use top_call::{COUNTERS, Status, code, counters, line, vfault};
 use vf_base::{MemShelf, MemSink, OpenGate};
-use vf_status::{Status, code, line};
 
 /// The status and the output of a run over a shelf of these files.
 fn answered<L: Ledger + Send + Sync, R: Threads + Sync>(

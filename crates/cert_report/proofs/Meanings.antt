@@ -4,7 +4,7 @@ use Rattle.std.specs.Prelude.{Option, Some, None, Result, Ok, Err}
 use Rattle.std.proofs.lemmas.Option.{slice_get_within}
 use Rattle.v_design.specs.Designs.{FlatDesign, TestPlan, StuckAt}
 use Rattle.v_design.specs.Grades.{Stop, grade}
-use Rattle.fault_grade.specs.Results.{LoopsAt}
+use Rattle.vf_certify.specs.fault_grade.Results.{LoopsAt}
 use Rattle.cert_laws.specs.Written.{certificate}
 use Rattle.cert_report.specs.declared.fault.CertifyFault.{CertifyFault}
 use Rattle.cert_report.specs.declared.fault.CertifyFault.TheVariants.{NoFault, GoodLoop, NoMemory}

@@ -5,7 +5,7 @@ use Rattle.v_design.specs.Designs.{FlatDesign, TestPlan, StuckAt}
 use Rattle.v_design.specs.Grades.{FaultGrade, grade}
 use Rattle.v_design.specs.Laws.{LineHolds}
 use Rattle.text_lines.specs.Text.{lines_of}
-use Rattle.fault_grade.specs.Results.{LoopsAt}
+use Rattle.vf_certify.specs.fault_grade.Results.{LoopsAt}
 use Rattle.cert_laws.specs.Claims.{Claim}
 use Rattle.cert_laws.specs.Valid.{Shows, outcome}
 use Rattle.cert_laws.specs.Written.{claim_as, certificate}

@@ -1,6 +1,6 @@
 -- A fault is passed over slots of a window (strobes by the plan; slots by IEEE 1364-2001, clause 5).
 use Rattle.std.proofs.Common.{◌≡◌, ℕ, suc, ◌+◌, ◌-◌, ◌<◌, ◌≤◌, List, length, take, drop, sym, ap, subst, ◌∙◌, arith, []}
-use Rattle.std.specs.Prelude.{Option, Some, None, slice_get}
+use Rattle.std.specs.Prelude.{Some, None, slice_get}
 use Rattle.std.proofs.Math.Seq.{take-add}
 use Rattle.vf_base.specs.Base.{WatchedBit}
 use Rattle.vf_base.specs.Lists.{AllHold}
@@ -14,34 +14,36 @@ use Rattle.copy_state.specs.Kept.{differences_of}
 use Rattle.process_code.specs.declared.code.Code.{Code}
 use Rattle.quiet_index.specs.PassOver.{SlotsLeaveAlone}
 use Rattle.beside_laws.specs.GoodRuns.{GoodRunGoesOn}
-use Rattle.beside_laws.specs.Gradings.{GradingGoesOn}
-use Rattle.lockstep_copies.specs.Copies.{IsCopyInLockstep}
-use Rattle.window_strobes.specs.Passed.{HasPassed}
-use Rattle.copy_window.specs.Copies.{differences_in}
-use Rattle.copy_window.specs.declared.fault.ShardFault.{ShardFault}
-use Rattle.lockstep_shards.specs.Shards.{HasPassedOver, ShardsGoInLockstep, StandsAtStrobe}
-use Rattle.lockstep_shards.proofs.Entering.{own-time}
-use Rattle.lockstep_shards.proofs.Laws.{last, last-there, time-there}
+use Rattle.fault_strobes.specs.Said.{Said}
+use Rattle.fault_strobes.specs.Strobes.{StrobesGoOn}
+use Rattle.lockstep_due.specs.lockstep_copies.Copies.{IsCopyInLockstep}
+use Rattle.lockstep_due.specs.window_strobes.Passed.{HasPassed}
+use Rattle.lockstep_due.specs.copy_window.Copies.{differences_in}
+use Rattle.lockstep_due.specs.copy_window.ShardFaults.{said_by}
+use Rattle.lockstep_due.specs.copy_window.declared.fault.ShardFault.{ShardFault}
+use Rattle.lockstep_due.specs.lockstep_shards.Shards.{HasPassedOver, ShardsGoInLockstep, StandsAtStrobe}
+use Rattle.lockstep_due.proofs.lockstep_shards.Entering.{own-time}
+use Rattle.lockstep_due.proofs.lockstep_shards.Laws.{last, last-there, time-there}
 use Rattle.copy_lockstep.specs.Faults.{IsOpenAtSlot}
 use Rattle.slot_strobes.specs.Counts.{AllBetween, CountsBy}
-use Rattle.slot_strobes.specs.Strobes.{IsGradingBehind, grader_with}
+use Rattle.slot_strobes.specs.Strobes.{IsGradingBehind}
 use Rattle.slot_strobes.proofs.Lists.{at-drop, at-take, drop-between, holds-from}
 use Rattle.slot_strobes.proofs.Counted.{passed-behind}
 use Rattle.copy_lockstep.proofs.Within.{by-codes}
 
 -- strobes that see nothing of a copy
-seen-none : (law : ShardsGoInLockstep) (design : FlatDesign) (plan : TestPlan) → KeepsRules design → IsPlan plan → (fault : StuckAt) (d : Differences) (first end : ℕ) (possible : Option ℕ) →
+seen-none : (law : ShardsGoInLockstep) (design : FlatDesign) (plan : TestPlan) → KeepsRules design → IsPlan plan → (fault : StuckAt) (d : Differences) (first end : ℕ) (said : Said) →
     first ≤ end → AllHold (λ (w : WatchedBit). own_of d.values w.object ≡ None) plan.watched → AllBetween plan.strobes first end (StandsAtStrobe design plan fault d) →
-    IsGradingBehind design plan fault first possible → IsGradingBehind design plan fault end possible
-seen-none law design plan rules of_plan fault d first end possible order none stands grading =
+    IsGradingBehind design plan fault first said → IsGradingBehind design plan fault end said
+seen-none law design plan rules of_plan fault d first end said order none stands grading =
     let all : first + (end - first) ≡ end = omega (arith, order) in
     let behind =
-    law.unseen design plan fault grading.now (take first plan.strobes) (take (end - first) (drop first plan.strobes)) (drop end plan.strobes) d (grader_with plan possible) rules of_plan none
+    law.unseen design plan fault grading.now (take first plan.strobes) (take (end - first) (drop first plan.strobes)) (drop end plan.strobes) d said rules of_plan none
     (holds-from (StandsAtStrobe design plan fault d) plan.strobes first (end - first) (λ place strobe low before here. stands place strobe low (omega (arith, before, order)) here))
-    (subst (λ (l : List ℕ). GradingGoesOn design plan fault grading.now (take first plan.strobes) l (grader_with plan possible)) (drop-between plan.strobes first end order) grading.goes) in
+    (subst (λ (l : List ℕ). StrobesGoOn design plan fault grading.now (take first plan.strobes) l said) (drop-between plan.strobes first end order) grading.goes) in
     record {
       now = behind.0;
-      goes = subst (λ (l : List ℕ). GradingGoesOn design plan fault behind.0 l (drop end plan.strobes) (grader_with plan possible))
+      goes = subst (λ (l : List ℕ). StrobesGoOn design plan fault behind.0 l (drop end plan.strobes) said)
           (sym (take-add first (end - first) plan.strobes) ∙ ap (λ n. take n plan.strobes) all) behind.1;
     }
 
@@ -107,9 +109,9 @@ module _ (law : ShardsGoInLockstep) (good : GoodRunGoesOn) (design : FlatDesign)
         at-take (λ s. s ≤ at.time) plan.strobes passed place strobe (at.behind.has_passed.early at.time at.behind.time_is at.behind.more) low here in
         omega (arith, by, since, time_is))) counts
 
-    grading : IsGradingBehind design plan fault count own.possible
+    grading : IsGradingBehind design plan fault count (said_by own)
     grading =
-        seen-none law design plan rules of_plan fault d passed count own.possible counts.since none
+        seen-none law design plan rules of_plan fault d passed count (said_by own) counts.since none
         (λ place strobe low before here.
         (let after : at.time < strobe =
         at-drop (λ s. at.time < s) plan.strobes passed place strobe (at.behind.has_passed.later at.time at.behind.time_is at.behind.more) low here in

@@ -1,5 +1,5 @@
 -- A fault before and behind a slot of a window (strobes by the plan; slots by IEEE 1364-2001, clause 5).
-use Rattle.std.proofs.Common.{◌≡◌, ℕ, suc, ◌+◌, ◌-◌, ◌<◌, ◌≤◌, true, List, length, refl, sym, ap, subst, ◌∙◌, arith, inl, inr, []}
+use Rattle.std.proofs.Common.{◌≡◌, ℕ, suc, ◌+◌, ◌-◌, ◌<◌, ◌≤◌, true, false, List, length, refl, sym, ap, subst, ◌∙◌, arith, inl, inr, []}
 use Rattle.std.specs.Prelude.{Option, Some, None, is_some, slice_get}
 use Rattle.std.proofs.lemmas.Bool.{cases_lt}
 use Rattle.vf_base.specs.declared.finding.End.TheVariants.{Detected}
@@ -11,13 +11,17 @@ use Rattle.copy_laws.specs.Windows.{good_slots, state_at, time_at}
 use Rattle.copy_state.specs.Kept.{CopyKept}
 use Rattle.grade_laws.specs.Grading.{good_stop}
 use Rattle.beside_laws.specs.GoodRuns.{GoodRunGoesOn}
-use Rattle.lockstep_copies.specs.Copies.{IsCopyInLockstep}
-use Rattle.window_strobes.specs.Passed.{HasPassed}
-use Rattle.copy_window.specs.Copies.{differences_in}
-use Rattle.copy_window.specs.ShardFaults.{IsShardFault}
-use Rattle.copy_window.specs.declared.fault.ShardFault.{ShardFault}
-use Rattle.lockstep_shards.specs.Shards.{AreDueAlike, ShardsGoInLockstep}
-use Rattle.lockstep_shards.proofs.Laws.{fine-there, last, last-there, next-later, some-is, stops-earlier, stops-later, time-is, time-there}
+use Rattle.lockstep_due.specs.lockstep_copies.Copies.{IsCopyInLockstep}
+use Rattle.lockstep_due.specs.window_strobes.Passed.{HasPassed}
+use Rattle.lockstep_due.specs.copy_window.Copies.{differences_in}
+use Rattle.fault_strobes.specs.Said.{Judging}
+use Rattle.fault_strobes.proofs.Ends.{judged-alike}
+use Rattle.v_design.specs.Grades.{Judged}
+use Rattle.v_design.specs.Grades as grades
+use Rattle.lockstep_due.specs.copy_window.ShardFaults.{IsShardFault, kept_by, said_by}
+use Rattle.lockstep_due.specs.copy_window.declared.fault.ShardFault.{ShardFault}
+use Rattle.lockstep_due.specs.lockstep_shards.Shards.{AreDueAlike, ShardsGoInLockstep}
+use Rattle.lockstep_due.proofs.lockstep_shards.Laws.{fine-there, last, last-there, next-later, some-is, stops-earlier, stops-later, time-is, time-there}
 use Rattle.lockstep_slot.specs.slot_laws.Copies.{MayBeginSlot, lockstep_differences}
 use Rattle.slot_strobes.specs.Counts.{CountsBy}
 use Rattle.slot_strobes.specs.Strobes.{ComeBefore, IsFoundAt, IsGradingBehind, StandsBeforeSlot}
@@ -103,14 +107,15 @@ module _ (law : ShardsGoInLockstep) (good : GoodRunGoesOn) (design : FlatDesign)
                 ∙ ap (state_through design plan) (sym m.gone_is);
           }
 
-      pub grades-from : IsGradingBehind design plan fault passed own.possible
+      pub grades-from : IsGradingBehind design plan fault passed (said_by own)
       grades-from = record { now = Some m.time; goes = law.grading design plan fault m.number m.time passed own rules m.behind }
 
       -- it was found at one of the strobes before
-      pub found-before : (count time : ℕ) → ComeBefore plan.strobes count begins → IsFoundAt design plan fault passed count time →
+      pub found-before : (count time : ℕ) → ComeBefore plan.strobes count begins → (possible : Option ℕ) → kept_by own ≡ false → IsFoundAt design plan fault passed count time (Judging possible) →
           StandsAtSlot design plan (suc gone) count (record own { end = Some (Detected time) })
-      found-before count time come found = record {
-        stands = law.found design plan fault gone begins count time (Detected time) (record own { end = Some (Detected time) }) rules found.ends
+      found-before count time come possible judged found = record {
+        stands = law.found design plan fault gone begins count time (Detected time) (record own { end = Some (Detected time) }) rules
+            (judged-alike design plan fault time (Judged (grades.Detected time)) (Judging possible) (said_by own) refl judged found.ends)
             (let low : time < begins = come.before found.place time found.before found.at in omega (arith, low)) m.behind.listed refl m.behind.stands.within more begins_is;
         has_passed = λ none. cc;
       }
@@ -165,7 +170,7 @@ module _ (law : ShardsGoInLockstep) (good : GoodRunGoesOn) (design : FlatDesign)
         has : HasPassed design plan (suc gone) count
         has = passed-behind design plan gone begins passed count begins_is (λ place strobe low at. (let less : strobe < begins = come.before place strobe low at in omega (arith, less))) counts
 
-        pub found-behind : (time : ℕ) → IsFoundAt design plan fault passed count time →
+        pub found-behind : (time : ℕ) → IsFoundAt design plan fault passed count time (said_by own) →
             StandsAtSlot design plan (suc gone) count (record own { time = begins; end = Some (Detected time) })
         found-behind time found = record {
           stands = law.found design plan fault gone begins count time (Detected time) (record own { time = begins; end = Some (Detected time) }) rules found.ends
@@ -173,10 +178,10 @@ module _ (law : ShardsGoInLockstep) (good : GoodRunGoesOn) (design : FlatDesign)
           has_passed = λ none. cc;
         }
 
-        pub goes-on-behind : (possible : Option ℕ) → own.end ≡ None → (state_at (faulty_machine design fault) plan.end begins).time ≡ begins →
-            IsGradingBehind design plan fault count possible → StandsAtSlot design plan (suc gone) count (record own { time = begins; possible = possible })
-        goes-on-behind possible none on_time grading = record {
-          stands = law.leaves design plan fault gone begins count grading.now (record own { time = begins; possible = possible }) c listed none more begins_is has grading.goes on_time;
+        pub goes-on-behind : own.end ≡ None → (state_at (faulty_machine design fault) plan.end begins).time ≡ begins →
+            IsGradingBehind design plan fault count (said_by own) → StandsAtSlot design plan (suc gone) count (record own { time = begins })
+        goes-on-behind none on_time grading = record {
+          stands = law.leaves design plan fault gone begins count grading.now (record own { time = begins }) c listed none more begins_is has grading.goes on_time;
           has_passed = λ none. has;
         }
 
@@ -212,10 +217,9 @@ has-ended design plan gone passed own at ended = record { passed = passed; stand
 
 -- what enters a slot
 pub enters-slot : (design : FlatDesign) (plan : TestPlan) (fault : StuckAt) (gone before : ℕ) (own : ShardFault) → MayTry design plan fault gone before own → (begins : ℕ) →
-    time_at design plan (suc gone) ≡ Some begins → (passed : ℕ) (possible : Option ℕ) → ComeBefore plan.strobes passed begins → IsGradingBehind design plan fault passed possible →
-    EntersSlot design plan fault gone own passed possible
+    time_at design plan (suc gone) ≡ Some begins → (passed : ℕ) (possible : Option ℕ) → ComeBefore plan.strobes passed begins →
+    (kept_by own ≡ false → IsGradingBehind design plan fault passed (Judging possible)) → EntersSlot design plan fault gone before own passed possible
 enters-slot design plan fault gone before own may begins is passed possible come grading = record {
-  before = before;
   may = may;
   come = λ other there. subst (ComeBefore plan.strobes passed) (some-is begins other (sym is ∙ there)) come;
   grading = grading;
@@ -223,14 +227,14 @@ enters-slot design plan fault gone before own may begins is passed possible come
 
 -- what came through it
 module _ (law : ShardsGoInLockstep) (good : GoodRunGoesOn) (design : FlatDesign) (plan : TestPlan) (rules : KeepsRules design) (fault : StuckAt) (gone : ℕ)
-    (more : suc gone < length (good_slots design plan)) (begins : ℕ) (begins_is : time_at design plan (suc gone) ≡ Some begins) (passed : ℕ) (possible : Option ℕ) (own : ShardFault)
-    (en : EntersSlot design plan fault gone own passed possible) (new : CopyKept) (states : new.states ≡ [])
+    (more : suc gone < length (good_slots design plan)) (begins : ℕ) (begins_is : time_at design plan (suc gone) ≡ Some begins) (before passed : ℕ) (possible : Option ℕ) (own : ShardFault)
+    (en : EntersSlot design plan fault gone before own passed possible) (new : CopyKept) (states : new.states ≡ [])
     (through : (first : FirstSlot) → slice_get (good_slots design plan) gone ≡ Some first → IsCopyInLockstep design plan fault gone first.begins.time (lockstep_differences new)) where
   after : IsCopyInLockstep design plan fault gone (last good design plan rules gone more).begins.time (lockstep_differences new)
   after = through (last good design plan rules gone more) (last-there good design plan rules gone more)
 
   pub copy-behind : IsCopyInLockstep design plan fault gone begins (differences_in design new)
-  copy-behind = goes-behind law good design plan rules fault gone more begins begins_is en.before own en.may new states after
+  copy-behind = goes-behind law good design plan rules fault gone more begins begins_is before own en.may new states after
 
   pub time-behind : (state_at (faulty_machine design fault) plan.end begins).time ≡ begins
-  time-behind = on-time law good design plan rules fault gone more begins begins_is en.before own en.may new states after
+  time-behind = on-time law good design plan rules fault gone more begins begins_is before own en.may new states after

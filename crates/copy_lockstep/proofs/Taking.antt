@@ -1,5 +1,5 @@
 -- The grading of a fault takes the process steps of the slot that it entered in lockstep (steps by IEEE 1364-2001, clause 9; slots by clause 5).
-use Rattle.std.proofs.Common.{◌≡◌, ℕ, suc, ◌+◌, ◌-◌, ◌<◌, ◌≤◌, true, List, [], ◌∷◌, length, take, drop, refl, sym, ap, subst, ◌∙◌, arith, inl, inr}
+use Rattle.std.proofs.Common.{◌≡◌, ℕ, suc, ◌+◌, ◌-◌, ◌<◌, ◌≤◌, Bool, true, false, List, [], ◌∷◌, length, take, drop, refl, sym, ap, subst, ◌∙◌, arith, inl, inr}
 use Rattle.std.specs.Prelude.{◌≢◌, ◌⊎◌, Option, Some, None, is_some, option_map, slice_get}
 use Rattle.std.proofs.lemmas.Bool.{cases_lt}
 use Rattle.std.proofs.lemmas.Option.{slice_get_cases, slice_get_within}
@@ -7,32 +7,37 @@ use Rattle.vf_base.specs.Lists.{AllHold}
 use Rattle.vf_base.specs.declared.finding.End.{End}
 use Rattle.vf_base.specs.declared.finding.Side.TheVariants.{Faulty}
 use Rattle.v_design.specs.Designs.{FlatDesign, StuckAt, TestPlan, good_machine, faulty_machine}
-use Rattle.v_design.specs.Grades.{Fine, FaultGrade, Hyper, Looped, Race, Raced, SlotOutcome, Stop, faulty_ending, grade, slot_outcome}
+use Rattle.v_design.specs.Grades.{Fine, FaultGrade, Hyper, Looped, Race, Raced, SlotOutcome, faulty_ending, grade, slot_outcome}
 use Rattle.v_design.specs.Plain.{grade_of}
 use Rattle.v_design.specs.Runs.{FirstSlot, next_slot, slot_end}
 use Rattle.v_design.specs.States.{State}
 use Rattle.v_design.specs.WellFormed.{KeepsRules}
-use Rattle.machine.specs.Ticks.{process_steps}
+use Rattle.lockstep_due.specs.machine.Ticks.{process_steps}
 use Rattle.machine_laws.specs.SlotLoop.{slot_from}
-use Rattle.fault_grade.specs.Ticks.{steps_by, grading_steps}
-use Rattle.graded_steps.specs.Ahead.{RunsTakeSteps}
-use Rattle.graded_steps.specs.Behind.{steps_graded, steps_up_to}
-use Rattle.graded_steps.specs.Gradings.{GradingsTakeSteps}
-use Rattle.slot_steps.specs.Laws.{SlotStepsGoOn}
+use Rattle.lockstep_due.specs.fault_grade.Ticks.{steps_by, grading_steps}
+use Rattle.lockstep_due.specs.graded_steps.Ahead.{RunsTakeSteps}
+use Rattle.lockstep_due.specs.graded_steps.Behind.{steps_up_to}
+use Rattle.lockstep_due.specs.graded_steps.Gradings.{GradingsTakeSteps}
+use Rattle.lockstep_slot.specs.slot_steps.Laws.{SlotStepsGoOn}
 use Rattle.copy_laws.specs.Windows.{HasEnded, IsBesideAt, IsThrough, IsOpen, IsRaced, IsWindow, WindowEnd, good_slots, state_at, time_at}
 use Rattle.copy_state.specs.Kept.{CopyKept}
 use Rattle.grade_laws.specs.Ahead.{StopsAfter}
 use Rattle.grade_laws.specs.Grading.{faulty_stop, good_stop}
 use Rattle.beside_laws.specs.GoodRuns.{GoodRunGoesOn, WindowsEnd}
-use Rattle.beside_laws.specs.Gradings.{EndsAt, GradingsEnd, GradingsGoOn, HasNotEnded}
-use Rattle.beside_laws.specs.Stands.{HasRun, RunsGoOn}
-use Rattle.lockstep_copies.specs.Copies.{BeginNextInLockstep, CopiesGoInLockstep, own_begins}
-use Rattle.lockstep_shards.proofs.Laws.{some-is, stops-earlier}
-use Rattle.window_strobes.specs.Neighbours.{time-between, time-by}
-use Rattle.copy_window.specs.ShardFaults.{IsShardFault, beside_by, steps_taken}
-use Rattle.copy_window.specs.declared.fault.ShardFault.{ShardFault}
+use Rattle.beside_laws.specs.Gradings.{EndsAt, GradingGoesOn, GradingsEnd, GradingsGoOn, HasNotEnded}
+use Rattle.beside_laws.specs.Stands.{RunsGoOn}
+use Rattle.lockstep_due.specs.lockstep_copies.Copies.{BeginNextInLockstep, CopiesGoInLockstep, own_begins}
+use Rattle.lockstep_due.proofs.lockstep_shards.Laws.{some-is, stops-earlier}
+use Rattle.lockstep_due.specs.window_strobes.Neighbours.{time-between, time-by}
+use Rattle.lockstep_due.specs.copy_window.ShardFaults.{IsShardFault, SameFault, beside_by, kept_by, said_by, steps_taken}
+use Rattle.lockstep_due.specs.copy_window.declared.fault.ShardFault.{ShardFault}
 use Rattle.lockstep_slot.specs.slot_laws.Copies.{MayBeginSlot, lockstep_differences}
-use Rattle.slot_strobes.specs.Strobes.{ComeBefore, grader_with}
+use Rattle.strobe_detect.specs.Graders.{GraderState}
+use Rattle.fault_strobes.specs.Said.{Judging, ending_strobes, plan_by}
+use Rattle.fault_strobes.proofs.Ends.{ending-hold}
+use Rattle.fault_strobes.proofs.Strobes.{as-graded, grader_for}
+use Rattle.lockstep_due.specs.lockstep_shards.Shards.{ShardsGoInLockstep}
+use Rattle.slot_strobes.specs.Strobes.{ComeBefore}
 use Rattle.slot_strobes.proofs.Lists.{holds-drop}
 use Rattle.copy_lockstep.specs.Entered.{EntersSlot}
 use Rattle.copy_lockstep.specs.Steps.{SlotsTakeSteps}
@@ -40,6 +45,7 @@ use Rattle.copy_lockstep.specs.Steps.{SlotsTakeSteps}
 -- the laws on which this stands
 pub record StepLaws : Type 0 where
   pub copies : CopiesGoInLockstep
+  pub shards : ShardsGoInLockstep
   pub steps : SlotStepsGoOn
   pub takes : RunsTakeSteps
   pub gradings : GradingsTakeSteps
@@ -99,8 +105,8 @@ module _ (law : StepLaws) (design : FlatDesign) (plan : TestPlan) (rules : Keeps
 
 -- The faulty machine's slot
 
-module _ (law : StepLaws) (design : FlatDesign) (plan : TestPlan) (fault : StuckAt) (gone passed count : ℕ) (possible : Option ℕ) (copy : CopyKept) (old new : ShardFault)
-    (en : EntersSlot design plan fault gone old passed possible) (may : MayBeginSlot design plan fault gone copy) (same : new.copy.fault ≡ old.copy.fault)
+module _ (law : StepLaws) (design : FlatDesign) (plan : TestPlan) (fault : StuckAt) (gone first passed count : ℕ) (possible : Option ℕ) (copy : CopyKept) (old new : ShardFault)
+    (en : EntersSlot design plan fault gone first old passed possible) (may : MayBeginSlot design plan fault gone copy) (same : SameFault old new)
     (stands : IsShardFault design plan (suc gone) count new) where
   rules : KeepsRules design
   rules = may.lockstep.rules
@@ -148,16 +154,57 @@ module _ (law : StepLaws) (design : FlatDesign) (plan : TestPlan) (fault : Stuck
   -- The grading behind it
 
   fault_is : stands.fault ≡ fault
-  fault_is = some-is stands.fault fault (sym stands.listed ∙ ap (slice_get plan.faults) same ∙ en.may.behind.listed)
+  fault_is = some-is stands.fault fault (sym stands.listed ∙ ap (slice_get plan.faults) same.number ∙ en.may.behind.listed)
 
-  beside : IsBesideAt design plan (suc gone) (beside_by design fault new)
-  beside = subst (λ (f : StuckAt). IsBesideAt design plan (suc gone) (beside_by design f new)) fault_is stands.beside
+  abbrev kept : Bool
+  kept = kept_by old
 
-  later : AllHold (λ (strobe : ℕ). time ≤ strobe) (drop passed plan.strobes)
+  -- the plan by whose strobes its grading ends
+  abbrev P : TestPlan
+  P = plan_by kept plan
+
+  beside : IsBesideAt design P (suc gone) (beside_by design fault new)
+  beside =
+      subst (λ (k : Bool). IsBesideAt design (plan_by k plan) (suc gone) (beside_by design fault new)) same.kind
+      (subst (λ (f : StuckAt). IsBesideAt design (plan_by (kept_by new) plan) (suc gone) (beside_by design f new)) fault_is stands.beside)
+
+  -- it goes on before the slot, by these strobes
+  record GoesBy (kept : Bool) : Type 0 where
+    pub now : Option ℕ
+    pub grader : GraderState
+    pub goes : GradingGoesOn design (plan_by kept plan) fault now (ending_strobes kept (take passed plan.strobes)) (ending_strobes kept (drop passed plan.strobes)) grader
+
+  goes-by : (k : Bool) → kept_by old ≡ k → GoesBy k
+  goes-by false e = record {
+    now = (en.grading e).now;
+    grader = grader_for plan (Judging possible);
+    goes = as-graded design plan fault (en.grading e).now (take passed plan.strobes) (drop passed plan.strobes) (Judging possible) (en.grading e).goes;
+  }
+  goes-by true e = record {
+    now = Some en.may.time;
+    grader = grader_for plan (said_by old);
+    goes =
+        subst
+        (λ (k : Bool). GradingGoesOn design (plan_by k plan) fault (Some en.may.time) (ending_strobes k (take first plan.strobes)) (ending_strobes k (drop first plan.strobes))
+        (grader_for plan (said_by old))) e
+        (as-graded design plan fault (Some en.may.time) (take first plan.strobes) (drop first plan.strobes) (said_by old)
+        (law.shards.grading design plan fault en.may.number en.may.time first old rules en.may.behind));
+  }
+
+  gk : GoesBy kept
+  gk = goes-by kept refl
+
+  abbrev next-k : List ℕ
+  next-k = ending_strobes kept (drop passed plan.strobes)
+
+  abbrev passed-k : List ℕ
+  passed-k = ending_strobes kept (take passed plan.strobes)
+
+  later : AllHold (λ (strobe : ℕ). time ≤ strobe) next-k
   later =
       let come : ComeBefore plan.strobes passed leads-to.time = en.come leads-to.time leads-to.time_is in
-      holds-drop (λ (strobe : ℕ). time ≤ strobe) plan.strobes passed
-      (λ place strobe low here. (let by : leads-to.time ≤ strobe = come.since place strobe low here in let since : time ≤ leads-to.time = leads-to.since in omega (arith, by, since)))
+      ending-hold (λ (strobe : ℕ). time ≤ strobe) kept (drop passed plan.strobes) (holds-drop (λ (strobe : ℕ). time ≤ strobe) plan.strobes passed
+      (λ place strobe low here. (let by : leads-to.time ≤ strobe = come.since place strobe low here in let since : time ≤ leads-to.time = leads-to.since in omega (arith, by, since))))
 
   abbrev Within : Option End → Type 0
   Within end = steps_by (faulty_machine design fault) may.time + steps ≤ steps_taken design plan (suc gone) fault end
@@ -167,19 +214,19 @@ module _ (law : StepLaws) (design : FlatDesign) (plan : TestPlan) (fault : Stuck
       faulty_ending time outcome ≡ Some found → grading_steps design plan fault found ≡ steps_by (faulty_machine design fault) plan.end → (end : Option End) → new.end ≡ end → Within end
   stopped outcome is other found ending all end end_is = go end end_is
     where
-      ended : EndsAt design plan fault time found
+      ended : EndsAt design P fault time found
       ended =
-          law.ends.faulty design plan fault en.grading.now (take passed plan.strobes) (drop passed plan.strobes) (grader_with plan possible)
-          (record { time = time; outcome = outcome }) found en.grading.goes
+          law.ends.faulty design P fault gk.now passed-k next-k gk.grader
+          (record { time = time; outcome = outcome }) found gk.goes
           (law.runs.stops (faulty_machine design fault) plan.end (Some may.time) begins state next.own_next (λ fine. other (sym is ∙ fine)) ∙ ap (λ (o : SlotOutcome). Some (record { time = time; outcome = o })) is)
           later leads-to.good_on ending
 
       go : (end : Option End) → new.end ≡ end → Within end
       go None none =
-          let by : HasEnded design plan fault leads-to.time = (let at : HasEnded design plan fault time = ended.ended in let since : time ≤ leads-to.time = leads-to.since in omega (arith, at, since)) in
+          let by : HasEnded design P fault leads-to.time = (let at : HasEnded design P fault time = ended.ended in let since : time ≤ leads-to.time = leads-to.since in omega (arith, at, since)) in
           absurd (no-some (option_map grade_of new.end) (ap (λ (o : Option End). option_map grade_of o) none) ((beside.found_where leads-to.time leads-to.time_is).1 by))
       go (Some found_end) some =
-          let graded : grade design plan fault ≡ Some (grade_of found_end) = beside.is_grade (grade_of found_end) (ap (λ (o : Option End). option_map grade_of o) some) in
+          let graded : grade design P fault ≡ Some (grade_of found_end) = beside.is_grade (grade_of found_end) (ap (λ (o : Option End). option_map grade_of o) some) in
           let found_is : grade_of found_end ≡ found = some-is (grade_of found_end) found (sym graded ∙ ended.grade_is) in
           subst (λ n. steps_by (faulty_machine design fault) may.time + steps ≤ n) (sym (ap (grading_steps design plan fault) found_is ∙ all)) in-all
 
@@ -194,18 +241,18 @@ module _ (law : StepLaws) (design : FlatDesign) (plan : TestPlan) (fault : Stuck
         (slot_end (faulty_machine design fault) (slot_from (faulty_machine design fault) begins))
         (law.runs.fine (faulty_machine design fault) plan.end (Some may.time) begins state next.own_next fine)).1
 
-    not-ended : HasNotEnded design plan fault (time - 1)
+    not-ended : HasNotEnded design P fault (time - 1)
     not-ended =
-        law.goes.not_ended design plan fault (time - 1) (take passed plan.strobes) (drop passed plan.strobes) (grader_with plan possible)
-        (law.goes.passes design plan fault en.grading.now (take passed plan.strobes) (drop passed plan.strobes) (grader_with plan possible) (time - 1) en.grading.goes
-        (holds-less (drop passed plan.strobes) later) (stops-earlier (time - 1) time (good_stop design plan) (omega arith) leads-to.good_on)
+        law.goes.not_ended design P fault (time - 1) passed-k next-k gk.grader
+        (law.goes.passes design P fault gk.now passed-k next-k gk.grader (time - 1) gk.goes
+        (holds-less next-k later) (stops-earlier (time - 1) time (good_stop design plan) (omega arith) leads-to.good_on)
         (stops-earlier (time - 1) time (faulty_stop design plan fault) (omega arith) goes-past)) (omega (arith, early, by-end))
       where
         holds-less : (strobes : List ℕ) → AllHold (λ (strobe : ℕ). time ≤ strobe) strobes → AllHold (λ (strobe : ℕ). time - 1 < strobe) strobes
         holds-less [] all = tt
         holds-less (strobe ∷ strobes) all = (let by : time ≤ strobe = all.0 in omega (arith, by, early), holds-less strobes all.1)
 
-    since : (ended : ℕ) → HasEnded design plan fault ended → time ≤ ended
+    since : (ended : ℕ) → HasEnded design P fault ended → time ≤ ended
     since ended has = elim (cases_lt ended time) [ inl less ↦ absurd (not-ended (omega (arith, has, less))) | inr by ↦ by ]
 
     goes : (end : Option End) → new.end ≡ end → Within end
@@ -216,9 +263,9 @@ module _ (law : StepLaws) (design : FlatDesign) (plan : TestPlan) (fault : Stuck
       | inr all ↦ absurd (no-some (option_map grade_of new.end) (ap (λ (o : Option End). option_map grade_of o) none) (beside.all_at_end all))
     ]
     goes (Some end) some =
-        let graded : grade design plan fault ≡ Some (grade_of end) = beside.is_grade (grade_of end) (ap (λ (o : Option End). option_map grade_of o) some) in
+        let graded : grade design P fault ≡ Some (grade_of end) = beside.is_grade (grade_of end) (ap (λ (o : Option End). option_map grade_of o) some) in
         let reached : steps_by (faulty_machine design fault) time ≤ grading_steps design plan fault (grade_of end) =
-        law.gradings.reached design plan fault time (grade_of end) rules by-end leads-to.good_on since graded in
+        law.gradings.reached design P fault time (grade_of end) rules by-end leads-to.good_on since graded in
         omega (arith, through, reached)
 
   within : (outcome : SlotOutcome) → slot_outcome (faulty_machine design fault) (slot_from (faulty_machine design fault) begins) ≡ outcome → Within new.end
@@ -234,5 +281,5 @@ module _ (law : StepLaws) (design : FlatDesign) (plan : TestPlan) (fault : Stuck
 
 pub slots-take : StepLaws → SlotsTakeSteps
 slots-take law = record {
-  entered = λ design plan fault gone passed count possible copy old new en may same stands. takes law design plan fault gone passed count possible copy old new en may same stands;
+  entered = λ design plan fault gone before passed count possible copy old new en may same stands. takes law design plan fault gone before passed count possible copy old new en may same stands;
 }

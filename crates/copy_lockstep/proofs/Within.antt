@@ -7,10 +7,10 @@ use Rattle.copy_laws.specs.Differences.{own_of}
 use Rattle.copy_state.specs.Entries.{each_by}
 use Rattle.copy_state.specs.Kept.{CopyKept, activities_of, differences_of}
 use Rattle.copy_between.specs.Beside.{KeepsWithin}
-use Rattle.copy_skip.specs.Limits.{AreThere}
-use Rattle.block_skip.specs.Blocks.{AreProcesses}
+use Rattle.lockstep_due.specs.copy_skip.Limits.{AreThere}
+use Rattle.lockstep_due.specs.block_skip.Blocks.{AreProcesses}
 use Rattle.process_code.specs.declared.code.Code.{Code}
-use Rattle.copy_window.specs.Copies.{differences_in, done_in}
+use Rattle.lockstep_due.specs.copy_window.Copies.{differences_in, done_in}
 use Rattle.lockstep_slot.specs.slot_laws.Copies.{lockstep_differences}
 
 below-by : {A : Type 0} (entries : List (ℕ × A)) (count number : ℕ) → ((other : ℕ) → count ≤ other → own_of entries other ≡ None) → is_some (own_of entries number) ≡ true → number < count

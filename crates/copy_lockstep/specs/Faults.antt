@@ -1,12 +1,12 @@
 -- A fault of a shard between two slots of a window (strobes by the plan; slots by IEEE 1364-2001, clause 5).
 use Rattle.std.specs.Prelude.{◌≡◌, ℕ, suc, None}
 use Rattle.v_design.specs.Designs.{FlatDesign, StuckAt, TestPlan}
-use Rattle.lockstep_copies.specs.Copies.{IsCopyInLockstep}
-use Rattle.copy_window.specs.Copies.{differences_in}
-use Rattle.copy_window.specs.ShardFaults.{IsShardFault}
-use Rattle.copy_window.specs.declared.fault.ShardFault.{ShardFault}
-use Rattle.window_strobes.specs.Passed.{HasPassed}
-use Rattle.lockstep_shards.specs.Shards.{IsOpenBehind}
+use Rattle.lockstep_due.specs.lockstep_copies.Copies.{IsCopyInLockstep}
+use Rattle.lockstep_due.specs.copy_window.Copies.{differences_in}
+use Rattle.lockstep_due.specs.copy_window.ShardFaults.{IsShardFault}
+use Rattle.lockstep_due.specs.copy_window.declared.fault.ShardFault.{ShardFault}
+use Rattle.lockstep_due.specs.window_strobes.Passed.{HasPassed}
+use Rattle.lockstep_due.specs.lockstep_shards.Shards.{IsOpenBehind}
 
 -- a fault of which nothing was found stands behind so many slots, of which there is one, and more come; so many strobes passed
 pub record IsOpenAtSlot (design : FlatDesign) (plan : TestPlan) (fault : StuckAt) (gone passed : ℕ) (own : ShardFault) : Type 0 where

@@ -1,10 +1,11 @@
 // A fault before a slot.
 
-ghost use Rattle.std.specs.Prelude.{◌≡◌, ℕ, ◌+◌, ◌<◌, ◌≤◌, IfOk, None, OnOk, Some, length, slice_get};
+ghost use Rattle.std.specs.Prelude.{◌≡◌, ℕ, ◌+◌, ◌<◌, ◌≤◌, IfOk, None, OnOk, Some, false, length, slice_get, true};
 ghost use Rattle.v_design.specs.Plain.{fault_of};
 ghost use Rattle.copy_laws.specs.Windows.{good_slots, time_at};
-ghost use Rattle.window_strobes.specs.Passed.{HasPassed};
-ghost use Rattle.copy_window.specs.ShardFaults.{IsShardFault};
+ghost use Rattle.lockstep_due.specs.window_strobes.Passed.{HasPassed};
+ghost use Rattle.fault_strobes.specs.Said.{Judging};
+ghost use Rattle.lockstep_due.specs.copy_window.ShardFaults.{IsShardFault, SameFault, kept_by};
 ghost use Rattle.slot_strobes.specs.Strobes.{ComeBefore, IsSeenTo};
 ghost use Rattle.copy_lockstep.specs.Faults.{IsOpenAtSlot, MayTry};
 ghost use Rattle.copy_lockstep.specs.Entered.{HasEntered};
@@ -12,17 +13,16 @@ ghost use Rattle.copy_lockstep.specs.Entered.{HasEntered};
 use crate::entered::{Entered, Entering};
 use crate::pass::pass_slots;
 use crate::reached::Reached;
-use copy_window::ShardFault;
+use fault_strobes::Strobed;
 use good_trace::{Setup, TraceWindow};
-use lockstep_due::may_go;
-use lockstep_shards::shards_go_in_lockstep;
+use lockstep_due::{ShardFault, may_go, shards_go_in_lockstep};
 use lockstep_slot::{LockstepWindow, enter_slot};
-use slot_strobes::{Seen, see_to};
+use slot_strobes::{Judged, judge_to, strobes_by};
 use std::alloc::Global;
 use v_design::{Fault, World};
 use vf_base::{End, NoMemory};
 
-/// Grades a fault at the strobes before a slot of a window, which begins at a time, in steps.
+/// Judges a fault at the strobes before a slot of a window, which begins at a time, in steps. Where its samples are kept no strobe ends its grading, and they are only counted.
 fn see_before<N: World>(
     setup: &Setup<'_, N>,
     window: &TraceWindow<N>,
@@ -30,27 +30,35 @@ fn see_before<N: World>(
     own: &ShardFault,
     at: Reached,
     begins: u64,
-) -> Seen
+) -> Judged
     requires slot { window.now.before + at.slot < window.now.through }
     requires next { window.now.before + at.slot + 1 < length (good_slots N.design N.plan) }
     requires fault { MayTry N.design N.plan (fault_of fault) (window.now.before + at.slot) at.passed own.now }
     requires begins { time_at N.design N.plan (window.now.before + at.slot + 1) ≡ Some begins }
     ensures passed { ComeBefore N.plan.strobes result.passed begins }
-    ensures seen { IsSeenTo N.design N.plan (fault_of fault) at.passed result.passed result.possible result.hard }
+    ensures seen { kept_by own.now ≡ false → IsSeenTo N.design N.plan (fault_of fault) at.passed result.passed (Judging result.possible) result.hard }
+    ensures none { kept_by own.now ≡ true → result.hard ≡ None }
 {
     beside_laws::good_run_goes_on();
     shards_go_in_lockstep();
     let design = setup.design();
-    see_to(
-        setup,
-        window,
-        at.slot,
-        fault,
-        &own.copy,
-        at.passed,
-        begins - 1,
-        own.possible,
-    )
+    match &own.strobed {
+        Strobed::Judging(possible) => judge_to(
+            setup,
+            window,
+            at.slot,
+            fault,
+            &own.copy,
+            at.passed,
+            begins - 1,
+            *possible,
+        ),
+        Strobed::Keeping(_) => Judged {
+            passed: strobes_by(setup, at.passed, begins - 1),
+            hard: None,
+            possible: None,
+        },
+    }
 }
 
 /// What becomes of a fault of which nothing was found at a slot of a window that touches something of its copy.
@@ -66,7 +74,7 @@ fn try_slot<N: World>(
     requires next { view.now.window.now.before + at.slot + 1 < length (good_slots N.design N.plan) }
     requires fault { IsOpenAtSlot N.design N.plan (fault_of fault) (view.now.window.now.before + at.slot) at.passed own.old }
     ensures entered { IfOk result (λ entered. (last : ℕ) → at.slot < last → HasEntered N.design N.plan (fault_of fault) view.now.window.now at last own.old own.new entered) }
-    ensures place { OnOk result (own.new.copy.fault ≡ own.old.copy.fault) }
+    ensures place { OnOk result (SameFault own.old own.new) }
 {
     beside_laws::good_run_goes_on();
     shards_go_in_lockstep();
@@ -116,7 +124,7 @@ pub fn enter<N: World>(
     requires none { own.old.end ≡ None }
     requires strobes { HasPassed N.design N.plan (view.now.window.now.before + at.slot) at.passed }
     ensures entered { IfOk result (HasEntered N.design N.plan (fault_of fault) view.now.window.now at last own.old own.new) }
-    ensures place { OnOk result (own.new.copy.fault ≡ own.old.copy.fault) }
+    ensures place { OnOk result (SameFault own.old own.new) }
 {
     beside_laws::good_run_goes_on();
     let design = setup.design();

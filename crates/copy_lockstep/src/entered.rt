@@ -3,8 +3,8 @@
 use crate::reached::Reached;
 use lockstep_slot::FaultInSlot;
 
-/// A fault that enters a slot in lockstep: what goes on of it there, how many of the plan's strobes were seen before the slot, and the time, in steps, of the first possible
-/// detection among them, if there was one.
+/// A fault that enters a slot in lockstep: what goes on of it there, how many of the plan's strobes come before the slot, and the time, in steps, of the first possible
+/// detection among them, if they judged the fault and there was one.
 #[derive(Drop)]
 pub struct Entering {
     pub one: FaultInSlot,

@@ -3,15 +3,13 @@
 ghost use Rattle.std.specs.Prelude.{◌≡◌, ◌+◌, ◌<◌, ◌≤◌, length};
 ghost use Rattle.v_design.specs.Plain.{fault_of};
 ghost use Rattle.copy_laws.specs.Windows.{good_slots};
+ghost use Rattle.lockstep_due.specs.copy_window.ShardFaults.{SameFault};
 ghost use Rattle.copy_lockstep.specs.Faults.{IsOpenAtSlot};
 
 use crate::reached::Reached;
-use copy_pass::is_unseen;
-use copy_skip::{next_touched, searches_begin};
-use copy_window::ShardFault;
 use good_trace::{Setup, TraceWindow};
-use lockstep_shards::shards_go_in_lockstep;
-use slot_strobes::strobes_by;
+use lockstep_due::{ShardFault, next_touched, searches_begin, shards_go_in_lockstep};
+use slot_strobes::{is_unseen, strobes_by};
 use v_design::{Fault, World};
 
 /// Copies with more values than this aren't searched for: so many searches would cost more than to try a slot.
@@ -34,7 +32,7 @@ pub(crate) fn pass_slots<N: World>(
     ensures since { at.slot ≤ result.slot }
     ensures by { result.slot ≤ to }
     ensures fault { IsOpenAtSlot N.design N.plan (fault_of fault) (window.now.before + result.slot) result.passed own.new }
-    ensures place { own.new.copy.fault ≡ own.old.copy.fault }
+    ensures place { SameFault own.old own.new }
     ensures stays { result.slot ≡ at.slot → own.new ≡ own.old }
     ensures same { result.slot ≡ at.slot → result.passed ≡ at.passed }
 {

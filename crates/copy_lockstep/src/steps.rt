@@ -12,8 +12,9 @@ pub fn slots_take_steps()
     beside_laws::gradings_go_on();
     beside_laws::runs_go_on();
     beside_laws::windows_end();
-    graded_steps::gradings_take_steps();
-    graded_steps::runs_take_steps();
-    lockstep_copies::copies_go_in_lockstep();
-    slot_steps::slot_steps_go_on();
+    lockstep_due::gradings_take_steps();
+    lockstep_due::runs_take_steps();
+    lockstep_due::copies_go_in_lockstep();
+    lockstep_due::shards_go_in_lockstep();
+    lockstep_slot::slot_steps_go_on();
 }

@@ -10,7 +10,7 @@ use Rattle.process_code.specs.declared.code.Code.{Code}
 use Rattle.copy_laws.specs.Differences.{Differences}
 use Rattle.copy_laws.specs.Windows.{IsCopyAt, state_at}
 use Rattle.copy_state.specs.Kept.{CopyKept, activities_of, differences_of}
-use Rattle.machine.specs.Standing.{StandsBetween}
+use Rattle.run_stands.specs.machine.Standing.{StandsBetween}
 use Rattle.quiet_index.specs.PassOver.{SlotsLeaveAlone}
 use Rattle.copy_skip.specs.Limits.{AreThere, SiteIsThere}
 use Rattle.copy_skip.specs.There.{SearchesBegin}

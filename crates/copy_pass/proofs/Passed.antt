@@ -9,11 +9,10 @@ use Rattle.vf_base.specs.Lists.{AllHold}
 use Rattle.vf_base.specs.declared.finding.End.{End}
 use Rattle.vf_base.specs.declared.finding.Side.TheVariants.{Good}
 use Rattle.v_design.specs.Designs.{FlatDesign, StuckAt, TestPlan, good_machine, faulty_machine}
-use Rattle.v_design.specs.Grades.{FaultGrade, Judged, Race, Raced, Sample, Stop, verdict_by}
+use Rattle.v_design.specs.Grades.{FaultGrade, Judged, Race, Raced, Sample, Stop}
 use Rattle.v_design.specs.Plain.{grade_of}
 use Rattle.v_design.specs.Runs.{FirstSlot}
 use Rattle.v_design.specs.WellFormed.{IsPlan, KeepsRules}
-use Rattle.strobe_detect.specs.Graders.{GraderState, IsShown}
 use Rattle.kept_samples.specs.Plain.{sample_of}
 use Rattle.between_slots.specs.Between.{state_through}
 use Rattle.between_slots.specs.Updates.{SlotsTakeNoTime}
@@ -25,22 +24,25 @@ use Rattle.grade_laws.specs.Ahead.{StopsAfter}
 use Rattle.grade_laws.specs.Decisions.{NotBefore}
 use Rattle.grade_laws.specs.Grading.{good_seen, faulty_seen, good_stop, faulty_stop, times}
 use Rattle.beside_laws.specs.GoodRuns.{GoodRunGoesOn, IsAllAt, IsOpenAt}
-use Rattle.beside_laws.specs.Gradings.{GradingGoesOn, GradingsEnd, GradingsGoOn}
+use Rattle.fault_strobes.specs.Full.{IsFull}
+use Rattle.fault_strobes.specs.Said.{IsSaid, keeps, plan_by, verdict_said}
+use Rattle.fault_strobes.specs.Strobes.{StrobesGoOn, StrobedFaultsGoOn, StrobedGradingsEnd, StrobedGradingsGoOn}
+use Rattle.fault_strobes.proofs.Faults.{copy-back, time-same}
 use Rattle.beside_laws.specs.Shards.{FaultsGoOn, found_fault}
 use Rattle.beside_laws.specs.Stands.{IsSince, RunsStand}
 use Rattle.quiet_slots.specs.Quiet.{GoesWithGood, HaveOneTime}
 use Rattle.quiet_slots.specs.Strobes.{StrobesSeeCopies}
 use Rattle.quiet_index.specs.PassOver.{CanPassOver, CopiesPassOver, SlotsLeaveAlone}
 use Rattle.run_stands.specs.Standing.{StatesStandBetween}
-use Rattle.window_strobes.specs.Leading.{EndsSo, IsLed}
-use Rattle.window_strobes.specs.Neighbours.{IsBetween, time-between}
-use Rattle.window_strobes.specs.Passed.{HasPassed}
-use Rattle.window_strobes.specs.Seen.{AreSeen, AreSeenIf}
-use Rattle.window_strobes.specs.Strobes.{passed_behind}
-use Rattle.window_strobes.specs.declared.strobes.WindowStrobes.{WindowStrobes}
+use Rattle.copy_window.specs.window_strobes.Leading.{EndsSo, IsLed}
+use Rattle.copy_window.specs.window_strobes.Neighbours.{IsBetween, time-between}
+use Rattle.copy_window.specs.window_strobes.Passed.{HasPassed}
+use Rattle.copy_window.specs.window_strobes.Seen.{AreSeen, AreSeenIf}
+use Rattle.copy_window.specs.window_strobes.Strobes.{passed_behind}
+use Rattle.copy_window.specs.window_strobes.declared.strobes.WindowStrobes.{WindowStrobes}
 use Rattle.copy_window.specs.Copies.{done_in, differences_in}
 use Rattle.copy_window.specs.Passing.{CanResume, EndsBehind}
-use Rattle.copy_window.specs.ShardFaults.{GoesOnAt, IsShardFault, beside_by, grader_by}
+use Rattle.copy_window.specs.ShardFaults.{GoesOnAt, IsShardFault, beside_by, kept_by, said_by}
 use Rattle.copy_window.specs.declared.fault.ShardFault.{ShardFault}
 use Rattle.copy_pass.specs.Alone.{IsAlone, values_alone}
 use Rattle.copy_pass.proofs.Slots.{IsLast, good-time, just-before, last-slot}
@@ -81,14 +83,15 @@ passed-take strobes passed count e = append_cancel_right passed (take count stro
 
 -- all laws on which this stands
 pub record PassLaws : Type 0 where
-  pub grading : GradingsGoOn
-  pub faults : FaultsGoOn
+  pub grading : StrobedGradingsGoOn
+  pub faults : StrobedFaultsGoOn
+  pub stay : FaultsGoOn
   pub good : GoodRunGoesOn
   pub over : CopiesPassOver
   pub see : StrobesSeeCopies
   pub stand : StatesStandBetween
   pub times : SlotsTakeNoTime
-  pub ends : GradingsEnd
+  pub ends : StrobedGradingsEnd
   pub runs : RunsStand
 
 -- a fault behind so many slots of which nothing was found, and the time of the last of them
@@ -100,20 +103,21 @@ module _ (laws : PassLaws) (design : FlatDesign) (plan : TestPlan) (rules : Keep
   pub goes-on : GoesOnAt design plan before strobes.passed fault now own
   goes-on = subst (λ (f : StuckAt). GoesOnAt design plan before strobes.passed f now own) fault_is (of.stands.goes_on now now_is more of.none)
 
-  beside : IsBesideAt design plan before (beside_by design fault own)
-  beside = subst (λ (f : StuckAt). IsBesideAt design plan before (beside_by design f own)) fault_is of.stands.beside
+  beside : IsBesideAt design (plan_by (kept_by own) plan) before (beside_by design fault own)
+  beside = subst (λ (f : StuckAt). IsBesideAt design (plan_by (kept_by own) plan) before (beside_by design f own)) fault_is of.stands.beside
 
   none-found : option_map grade_of own.end ≡ None
   none-found = ap (λ (end : Option End). option_map grade_of end) of.none
 
   pub copy-now : IsCopyAt design plan fault now (differences_in design own.copy)
-  copy-now = beside.copy now now_is none-found
+  copy-now =
+      copy-back design plan fault (kept_by own) now (differences_in design own.copy) (beside.copy now (time-same design plan (kept_by own) before ∙ now_is) none-found)
 
-  grading : GradingGoesOn design plan fault (Some now) (take strobes.passed plan.strobes) (drop strobes.passed plan.strobes) (grader_by plan own)
+  grading : StrobesGoOn design plan fault (Some now) (take strobes.passed plan.strobes) (drop strobes.passed plan.strobes) (said_by own)
   grading =
-      laws.grading.again design plan fault now (take strobes.passed plan.strobes) (drop strobes.passed plan.strobes) (grader_by plan own)
-      (laws.faults.is_open design plan before now (beside_by design fault own) beside none-found now_is) (sym (take-append-drop strobes.passed plan.strobes))
-      (of.are.has_passed.early now now_is more) (of.are.has_passed.later now now_is more) refl goes-on.shown
+      laws.grading.again design plan fault now (take strobes.passed plan.strobes) (drop strobes.passed plan.strobes) (said_by own)
+      (laws.stay.is_open design (plan_by (kept_by own) plan) before now (beside_by design fault own) beside none-found (time-same design plan (kept_by own) before ∙ now_is)) (sym (take-append-drop strobes.passed plan.strobes))
+      (of.are.has_passed.early now now_is more) (of.are.has_passed.later now now_is more) goes-on.so_far
 
   -- up to a time its slots leave the copy alone, and the strobes up to there don't see that
   module _ (until : ℕ) (since : now ≤ until) (good_on : StopsAfter until (good_stop design plan)) (by_end : until ≤ plan.end) (ends : ℕ)
@@ -157,24 +161,24 @@ module _ (laws : PassLaws) (design : FlatDesign) (plan : TestPlan) (rules : Keep
     abbrev passed : List ℕ
     passed = take strobes.passed plan.strobes ++ middle
 
-    behind : GoesOnBehind design plan fault passed later (grader_by plan own)
+    behind : GoesOnBehind design plan fault passed later (said_by own)
     behind =
-        alike-strobes laws.grading design plan of_plan fault (grader_by plan own) refl now until good_on over.goes_on
+        alike-strobes laws.grading design plan of_plan fault (said_by own) now until good_on over.goes_on
         (λ time after by. (laws.see design plan fault d time rules (over.copy time after by)).same unseen) middle (Some now) (take strobes.passed plan.strobes) later
-        (subst (λ (l : List ℕ). GradingGoesOn design plan fault (Some now) (take strobes.passed plan.strobes) l (grader_by plan own)) next_are grading)
+        (subst (λ (l : List ℕ). StrobesGoOn design plan fault (Some now) (take strobes.passed plan.strobes) l (said_by own)) next_are grading)
         (all-left (λ strobe. now < strobe) middle later (subst (AllHold (λ strobe. now < strobe)) next_are (of.are.has_passed.later now now_is more))) by_then
 
-    goes : GradingGoesOn design plan fault (Some until) passed later (grader_by plan own)
-    goes = laws.grading.passes design plan fault behind.now passed later (grader_by plan own) until behind.goes after good_on over.goes_on
+    goes : StrobesGoOn design plan fault (Some until) passed later (said_by own)
+    goes = laws.grading.passes design plan fault behind.now passed later (said_by own) until behind.goes after good_on over.goes_on
 
     abbrev new : ShardFault
     new = record own { time = until; end = None }
 
     -- slots come behind so many
     module _ (reached count : ℕ) (passed_is : passed ≡ take count plan.strobes) (runs_on : IsOpenAt design plan reached until) where
-      stands : IsBesideAt design plan reached (beside_by design fault new)
+      stands : IsBesideAt design (plan_by (kept_by own) plan) reached (beside_by design fault new)
       stands =
-          laws.faults.goes_on design plan fault reached until passed later (grader_by plan own) (differences_in design own.copy) runs_on goes
+          laws.faults.goes_on design plan fault reached until passed later (said_by own) (differences_in design own.copy) runs_on goes
           (subst (IsCopyAt design plan fault until) (sym d_is) (over.copy until since (omega arith)))
 
       one-time : HaveOneTime design plan fault now
@@ -186,7 +190,7 @@ module _ (laws : PassLaws) (design : FlatDesign) (plan : TestPlan) (rules : Keep
         between = laws.stand (faulty_machine design fault) plan.end until rules by_end over.goes_on;
         time_is = over.same_time until since (omega arith) one-time ∙ good-time design plan rules reached until runs_on laws.times;
         states = λ codes are. subst (AreStatesOf codes) (sym alone.states) tt;
-        shown = subst (λ (l : List ℕ). IsShown (good_seen design plan) (faulty_seen design plan fault) l (grader_by plan own)) passed_is goes.shown;
+        so_far = subst (λ (l : List ℕ). IsSaid (good_seen design plan) (faulty_seen design plan fault) l (said_by own)) passed_is goes.so_far;
       }
 
       pub stays-open : IsShardFault design plan reached count new
@@ -194,6 +198,7 @@ module _ (laws : PassLaws) (design : FlatDesign) (plan : TestPlan) (rules : Keep
         fault = fault;
         listed = of.listed;
         beside = stands;
+        full = λ end e. cc;
         within = of.stands.within;
         goes_on = λ time e further none. subst (λ t. GoesOnAt design plan reached count fault t new) (some-is until time (sym runs_on.time_is ∙ e)) goes-on-behind;
       }
@@ -283,7 +288,7 @@ module _ (laws : PassLaws) (design : FlatDesign) (plan : TestPlan) (rules : Keep
     by-then : AllHold (λ strobe. strobe ≤ until) (times samples)
     by-then = all-times until samples seen.by_then
 
-    goes-all : GradingGoesOn design plan fault (Some until) passed-all later-all (grader_by plan own)
+    goes-all : StrobesGoOn design plan fault (Some until) passed-all later-all (said_by own)
     goes-all = goes until since led.goes_on led.within ends next_later alone unseen same (times samples) later-all seen.next_are by-then seen.after
 
     own-on : StopsAfter until (faulty_stop design plan fault)
@@ -296,40 +301,47 @@ module _ (laws : PassLaws) (design : FlatDesign) (plan : TestPlan) (rules : Keep
 
     -- The good first run is over
 
-    ended : (end : End) (found : FaultGrade) → grade_of end ≡ found → IsBesideAt design plan through (found_fault fault (differences_in design own.copy) found) →
-        IsShardFault design plan through (passed_behind strobes) (record own { time = until; end = Some end })
+    abbrev Found : FaultGrade → Type 0
+    Found found = IsBesideAt design (plan_by (kept_by own) plan) through (found_fault fault (differences_in design own.copy) found) × IsFull design plan fault found (said_by own)
+
+    some-end : (one other : End) → Some one ≡ Some other → one ≡ other
+    some-end one other e = cc
+
+    ended : (end : End) (found : FaultGrade) → grade_of end ≡ found → Found found → IsShardFault design plan through (passed_behind strobes) (record own { time = until; end = Some end })
     ended end found is stands = record {
       fault = fault;
       listed = of.listed;
-      beside = subst (λ (g : FaultGrade). IsBesideAt design plan through (found_fault fault (differences_in design own.copy) g)) (sym is) stands;
+      beside = (subst Found (sym is) stands).0;
+      full = λ other e. subst (λ (o : End). IsFull design plan fault (grade_of o) (said_by own)) (some-end end other e) (subst Found (sym is) stands).1;
       within = of.stands.within;
       goes_on = λ time e further none. cc;
     }
 
     -- by the verdict of the strobes
-    by-strobes : IsAllAt design plan through → good_stop design plan ≡ None → until ≡ plan.end →
-        IsBesideAt design plan through (found_fault fault (differences_in design own.copy) (Judged (verdict_by None own.possible)))
+    by-strobes : IsAllAt design plan through → good_stop design plan ≡ None → until ≡ plan.end → Found (Judged (verdict_said (said_by own)))
     by-strobes all stop at_end =
         let none : later-all ≡ [] =
         none-left plan.end later-all (all-right (λ strobe. strobe ≤ plan.end) passed-all later-all (subst (AllHold (λ strobe. strobe ≤ plan.end)) goes-all.strobes of_plan.in_time))
         (subst (λ t. AllHold (λ strobe. t < strobe) later-all) at_end seen.after) in
         let never : faulty_stop design plan fault ≡ None =
         laws.runs.never (faulty_machine design fault) plan.end rules (subst (λ t. StopsAfter t (faulty_stop design plan fault)) at_end own-on) in
-        laws.faults.ends_all design plan fault through plan.end (Judged (verdict_by None own.possible)) (differences_in design own.copy) rules of_plan all
-        (laws.ends.verdict design plan fault (Some until) passed-all (grader_by plan own) rules of_plan
-        (subst (λ (l : List ℕ). GradingGoesOn design plan fault (Some until) passed-all l (grader_by plan own)) none goes-all) stop never)
+        let e =
+        laws.ends.verdict design plan fault (Some until) passed-all (said_by own) rules of_plan
+        (subst (λ (l : List ℕ). StrobesGoOn design plan fault (Some until) passed-all l (said_by own)) none goes-all) stop never in
+        (laws.faults.ends_all design plan fault (kept_by own) through plan.end (Judged (verdict_said (said_by own))) (differences_in design own.copy) rules of_plan all e.ends, e.full)
 
     -- by the good machine's race
     by-race : (pair : ReportedPair) → IsAllAt design plan through → good_stop design plan ≡ Some (record { time = pair.time; outcome = Race pair }) → pair.time ≡ suc until →
-        IsBesideAt design plan through (found_fault fault (differences_in design own.copy) (Raced Good pair))
+        Found (Raced Good pair)
     by-race pair all stop at =
-        laws.faults.ends_all design plan fault through pair.time (Raced Good pair) (differences_in design own.copy) rules of_plan all
-        (laws.ends.good design plan fault (Some until) passed-all later-all (grader_by plan own) (record { time = pair.time; outcome = Race pair }) (Raced Good pair) goes-all stop
+        let e =
+        laws.ends.good design plan fault (Some until) passed-all later-all (said_by own) (record { time = pair.time; outcome = Race pair }) (Raced Good pair) goes-all stop
         (subst (λ t. AllHold (λ strobe. t ≤ strobe) later-all) (sym at) (since-next until later-all seen.after))
-        (subst (λ t. NotBefore t (faulty_stop design plan fault)) (sym at) (not-before-next until (faulty_stop design plan fault) own-on)) refl)
+        (subst (λ t. NotBefore t (faulty_stop design plan fault)) (sym at) (not-before-next until (faulty_stop design plan fault) own-on)) refl in
+        (laws.faults.ends_all design plan fault (kept_by own) through pair.time (Raced Good pair) (differences_in design own.copy) rules of_plan all e.ends, e.full)
 
     -- so it stands behind the window, however that ends
-    pub passes : (ending : WindowEnd) (end : Option End) → EndsSo design plan through ending (Some until) → EndsBehind ending (grader_by plan own) end →
+    pub passes : (ending : WindowEnd) (end : Option End) → EndsSo design plan through ending (Some until) → EndsBehind ending (said_by own) end →
         IsShardFault design plan through (passed_behind strobes) (record own { time = until; end = end })
     passes IsOpen end so behind =
         subst (λ (e : Option End). IsShardFault design plan through (passed_behind strobes) (record own { time = until; end = e })) (sym behind)
@@ -337,7 +349,7 @@ module _ (laws : PassLaws) (design : FlatDesign) (plan : TestPlan) (rules : Keep
         (subst (IsOpenAt design plan through) (sym (some-is until so.0 so.1)) so.2))
     passes IsThrough end so behind =
         subst (λ (e : Option End). IsShardFault design plan through (passed_behind strobes) (record own { time = until; end = e })) (sym behind.1)
-        (ended behind.0 (Judged (verdict_by None own.possible)) behind.2 (by-strobes so.0 so.1 (some-is until plan.end so.2)))
+        (ended behind.0 (Judged (verdict_said (said_by own))) behind.2 (by-strobes so.0 so.1 (some-is until plan.end so.2)))
     passes (IsRaced pair) end so behind =
         subst (λ (e : Option End). IsShardFault design plan through (passed_behind strobes) (record own { time = until; end = e })) (sym behind.1)
         (ended behind.0 (Raced Good pair) behind.2 (by-race pair so.0 so.1 (just-before pair.time until so.2)))

@@ -12,7 +12,7 @@ use Rattle.between_slots.specs.Between.{state_through}
 use Rattle.between_slots.specs.Updates.{SlotsTakeNoTime}
 use Rattle.copy_laws.specs.Windows.{IsOpen, IsRaced, IsThrough, IsWindow, WindowEnd, good_slots, state_at, time_at}
 use Rattle.beside_laws.specs.GoodRuns.{GoodRunGoesOn, IsOpenAt}
-use Rattle.window_strobes.specs.Leading.{EndsSo, last_before}
+use Rattle.copy_window.specs.window_strobes.Leading.{EndsSo, last_before}
 use Rattle.copy_pass.specs.Alone.{fine_slots}
 
 some-is : {A : Type 0} (one other : A) → Some one ≡ Some other → one ≡ other

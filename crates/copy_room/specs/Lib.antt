@@ -1,2 +1,3 @@
 pub mod Rooms
 pub mod Putting
+pub use Rattle.machine.specs as machine

@@ -12,3 +12,4 @@ mod leaving;
 
 pub use entering::enter;
 pub use leaving::leave;
+pub use machine::Machine;

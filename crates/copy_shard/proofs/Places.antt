@@ -13,7 +13,7 @@ use Rattle.v_design.specs.PlainDesigns.{plan_of}
 use Rattle.v_design.specs.declared.plan.Fault.{Fault}
 use Rattle.v_design.specs.declared.plan.Plan.{Plan}
 use Rattle.copy_state.specs.Kept.{CopyKept}
-use Rattle.shard_slots.specs.copy_window.declared.fault.ShardFault.{ShardFault}
+use Rattle.shard_windows.specs.copy_window.declared.fault.ShardFault.{ShardFault}
 use Rattle.copy_shard.specs.Kept.{fault_kept}
 use Rattle.copy_shard.specs.Shards.{FaultKept, finding_of, findings_of, places_of}
 

@@ -1,5 +1,5 @@
 -- What stands of a shard's faults, and of their findings (slots by IEEE 1364-2001, clause 5).
-use Rattle.std.proofs.Common.{◌≡◌, ℕ, true, false, List, [], ◌∷◌, length, map, refl, ap}
+use Rattle.std.proofs.Common.{◌≡◌, ℕ, Bool, true, false, List, [], ◌∷◌, length, map, refl, ap, subst}
 use Rattle.std.specs.Prelude.{Option, Some, None, is_some, option_map}
 use Rattle.std.specs.List.{All, cons_option}
 use Rattle.std.proofs.lemmas.List.Elements.{All-cons, All-nil}
@@ -8,18 +8,27 @@ use Rattle.vf_base.specs.declared.finding.End.{End}
 use Rattle.vf_base.specs.declared.finding.Finding.{Finding}
 use Rattle.v_design.specs.Designs.{FlatDesign, TestPlan}
 use Rattle.v_design.specs.Plain.{grade_of}
-use Rattle.copy_laws.specs.Windows.{good_slots}
-use Rattle.shard_slots.specs.copy_window.ShardFaults.{IsShardFault}
-use Rattle.shard_slots.specs.copy_window.declared.fault.ShardFault.{ShardFault}
+use Rattle.copy_laws.specs.Windows.{IsBesideAt, good_slots}
+use Rattle.fault_strobes.specs.Said.{plan_by}
+use Rattle.shard_windows.specs.copy_window.ShardFaults.{IsShardFault, beside_by, kept_by}
+use Rattle.shard_windows.specs.copy_window.declared.fault.ShardFault.{ShardFault}
 use Rattle.fault_shards.specs.Found.{IsFinding, found_faults}
 use Rattle.copy_shard.specs.Kept.{fault_kept}
 use Rattle.copy_shard.specs.Shards.{FaultKept, FaultStands, findings_of, places_of}
 
 module _ (design : FlatDesign) (plan : TestPlan) (gone : ℕ) where
   -- the faults of a shard stand
-  pub all-stand : (passed : ℕ) (faults : List ShardFault) → AllHold (IsShardFault design plan gone passed) faults → AllHold (FaultStands design plan gone) (map fault_kept faults)
-  all-stand passed [] all = tt
-  all-stand passed (own ∷ faults) all = (record { fault = all.0.fault; listed = all.0.listed; beside = all.0.beside }, all-stand passed faults all.1)
+  pub all-stand : (passed : ℕ) (faults : List ShardFault) → AllHold (λ (own : ShardFault). kept_by own ≡ false) faults → AllHold (IsShardFault design plan gone passed) faults →
+      AllHold (FaultStands design plan gone) (map fault_kept faults)
+  all-stand passed [] judged all = tt
+  all-stand passed (own ∷ faults) judged all = (
+    record {
+      fault = all.0.fault;
+      listed = all.0.listed;
+      beside = subst (λ (kept : Bool). IsBesideAt design (plan_by kept plan) gone (beside_by design all.0.fault own)) judged.0 all.0.beside;
+    },
+    all-stand passed faults judged.1 all.1,
+  )
 
   -- an end as a finding
   abbrev pub finding-by : FaultKept → End → Finding

@@ -1,57 +1,20 @@
 -- The process steps of a shard's faults through a window (steps by IEEE 1364-2001, clause 9; slots by clause 5).
-use Rattle.std.proofs.Common.{◌≡◌, ℕ, ◌+◌, ◌≤◌, Bool, true, false, List, [], ◌∷◌, map, refl, sym, ap, subst, ◌∙◌, arith}
-use Rattle.std.specs.Prelude.{Option, Some, None, is_some, not, ◌||◌, option_map, slice_get, sum_by}
-use Rattle.std.specs.List.{list_any}
+use Rattle.std.proofs.Common.{◌≡◌, ℕ, ◌+◌, ◌≤◌, List, [], ◌∷◌, map, refl, sym, ap, subst, ◌∙◌, arith}
+use Rattle.std.specs.Prelude.{Option, Some, None, option_map, slice_get, sum_by}
 use Rattle.std.proofs.lemmas.List.Sums.{sum_by-cons}
 use Rattle.std.proofs.lemmas.Option.{same_Some}
 use Rattle.vf_base.specs.Lists.{AllHold}
 use Rattle.v_design.specs.Designs.{FlatDesign, StuckAt, TestPlan}
 use Rattle.v_design.specs.Plain.{grade_of}
 use Rattle.v_design.specs.WellFormed.{KeepsRules}
-use Rattle.graded_steps.specs.Behind.{RisesTwice, RisesWithin, fault_steps}
-use Rattle.graded_steps.specs.Gradings.{GradingsTakeSteps}
-use Rattle.shard_slots.specs.copy_window.Copies.{differences_in}
-use Rattle.shard_slots.specs.copy_window.ShardFaults.{IsShardFault, steps_taken}
-use Rattle.shard_slots.specs.copy_window.declared.fault.ShardFault.{ShardFault}
-use Rattle.shard_slots.specs.window_faults.Steps.{steps_of_fault, steps_of_faults}
-use Rattle.shard_slots.proofs.window_faults.Steps.{steps-are, steps-ended, steps-more, steps-open}
-use Rattle.copy_shard.specs.Kept.{fault_kept, is_open}
+use Rattle.shard_windows.specs.graded_steps.Behind.{RisesTwice, fault_steps}
+use Rattle.shard_windows.specs.graded_steps.Gradings.{GradingsTakeSteps}
+use Rattle.shard_windows.specs.copy_window.Copies.{differences_in}
+use Rattle.shard_windows.specs.copy_window.ShardFaults.{steps_taken}
+use Rattle.shard_windows.specs.copy_window.declared.fault.ShardFault.{ShardFault}
+use Rattle.shard_windows.specs.window_faults.Steps.{steps_of_faults}
+use Rattle.copy_shard.specs.Kept.{fault_kept}
 use Rattle.copy_shard.specs.Shards.{FaultKept, FaultStands, ShardKept, fault_steps_at, kept_steps, places_of, shard_steps}
-
--- A fault
-
-pub same-rises : (from until counter : ℕ) → from ≡ until → RisesTwice from until counter counter
-same-rises from until counter same = omega (arith, same)
-
--- one that began is graded through a window
-pub begins-rise : GradingsTakeSteps → (design : FlatDesign) (plan : TestPlan) → KeepsRules design → (before through passed behind : ℕ) (old new : ShardFault) (fault : StuckAt) (one other : ℕ) →
-    before ≤ through → slice_get plan.faults old.copy.fault ≡ Some fault → old.end ≡ None → new.copy.fault ≡ old.copy.fault → IsShardFault design plan before passed old →
-    IsShardFault design plan through behind new → RisesWithin (steps_taken design plan before fault None) (steps_taken design plan through fault new.end) one other →
-    RisesTwice (steps_of_fault design plan before old) (steps_of_fault design plan through new) one other
-begins-rise take design plan rules before through passed behind old new fault one other low listed none place stood stands rises =
-    let a = steps-open design plan before old fault listed none in
-    let b = steps-are design plan through new fault (ap (slice_get plan.faults) place ∙ listed) in
-    let more = steps-more take design plan rules before through low passed behind old new none place stood stands in
-    omega (arith, a, b, more, rises)
-
--- Several faults
-
--- where the grading of none goes on they take no more
-pub taken-ended : (design : FlatDesign) (plan : TestPlan) (from until : ℕ) (faults : List ShardFault) → list_any is_open faults ≡ false →
-    steps_of_faults design plan from faults ≡ steps_of_faults design plan until faults
-taken-ended design plan from until [] none = refl
-taken-ended design plan from until (own ∷ faults) none =
-    let each = both (is_some own.end) (list_any is_open faults) none in
-    let one = steps-ended design plan from until own each.0 in
-    let rest = taken-ended design plan from until faults each.1 in
-    let a : steps_of_faults design plan from (own ∷ faults) ≡ steps_of_fault design plan from own + steps_of_faults design plan from faults = sum_by-cons (steps_of_fault design plan from) own faults in
-    let b : steps_of_faults design plan until (own ∷ faults) ≡ steps_of_fault design plan until own + steps_of_faults design plan until faults =
-    sum_by-cons (steps_of_fault design plan until) own faults in
-    omega (arith, one, rest, a, b)
-  where
-    both : (ended some : Bool) → (not ended || some) ≡ false → (ended ≡ true) × (some ≡ false)
-    both true some e = (refl, e)
-    both false some e = cc
 
 -- what contracts see of the faults takes the same
 pub sum_by-seen : (g : FaultKept → ℕ) (faults : List ShardFault) → sum_by g (map fault_kept faults) ≡ sum_by (λ (own : ShardFault). g (fault_kept own)) faults

@@ -8,9 +8,9 @@ use Rattle.v_design.specs.Designs.{FlatDesign, StuckAt, TestPlan}
 use Rattle.v_design.specs.Plain.{grade_of}
 use Rattle.copy_laws.specs.Windows.{IsBesideAt}
 use Rattle.copy_state.specs.Kept.{CopyKept, nothing_kept}
-use Rattle.shard_slots.specs.copy_window.Copies.{differences_in}
-use Rattle.graded_steps.specs.Behind.{fault_steps}
-use Rattle.shard_slots.specs.copy_window.ShardFaults.{steps_taken}
+use Rattle.shard_windows.specs.copy_window.Copies.{differences_in}
+use Rattle.shard_windows.specs.graded_steps.Behind.{fault_steps}
+use Rattle.shard_windows.specs.copy_window.ShardFaults.{steps_taken}
 
 -- a fault of a shard: what is kept of its faulty machine's state, and how its grading ended, if it did
 pub record FaultKept : Type 0 where

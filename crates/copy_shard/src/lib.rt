@@ -1,20 +1,17 @@
-//! A shard of faults beside the good first run, from window to window (slots by IEEE 1364-2001, clause 5).
+//! Shards of faults beside the good first run, from window to window (slots by IEEE 1364-2001, clause 5).
 //!
-//! A `Shard` has some of a plan's listed faults. It is made before the first slot, and `advance` takes it through the next window of the good first run: through the first one each
-//! fault's machine is run from the start on; through any other the faults go slot by slot, side by side in lockstep with the good machine, or by their machines where they can't
-//! (`shard_slots`). Behind the window a fault is kept by its copy, or by its end. The main contract: at any time each fault of the shard stands as a fault does behind so many slots:
-//! its end is its grade, and is there just where its grading ended by then or the good first run is through; without an end its copy is the faulty machine's state, and keeps nothing
-//! that is the good machine's. So once the good first run is through, `findings` has the grade of each fault. A counter rises by no more than twice the process steps that the gradings
-//! of the faults take in between: twice, since a slot that a fault leaves is run again.
+//! A `Shard` has some of a plan's listed faults. It is made before the first slot, and `advance` takes it through the next window of the good first run (`shard_windows`). Behind the
+//! window a fault is kept by its copy, or by its end. The main contract: at any time each fault of the shard stands as a fault does behind so many slots: its end is its grade, and is
+//! there just where its grading ended by then or the good first run is through; without an end its copy is the faulty machine's state, and keeps nothing that is the good machine's. So
+//! once the good first run is through, `findings` has the grade of each fault. A counter rises by no more than twice the process steps that the gradings of the faults take in between:
+//! twice, since a slot that a fault leaves is run again.
 //!
-//! What is needed to take faults through slots stands in a `ShardRoom`: one serves all shards of a worker.
+//! `advance_together` takes the claimed shards of a worker through a window side by side, with the same contract for each: so the good machine's states are gone through once for all.
 #![tactic(auto)]
 
-mod advance;
-mod fresh;
-mod reached;
-mod room;
 mod shard;
+mod together;
 
-pub use room::ShardRoom;
 pub use shard::Shard;
+pub use shard_windows::ShardRoom;
+pub use together::{ClaimedShard, advance_together};

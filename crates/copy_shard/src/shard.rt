@@ -1,24 +1,20 @@
 // A shard of faults.
 
-ghost use Rattle.std.specs.Prelude.{◌≡◌, ◌≢◌, ◌<◌, ◌≤◌, ◌++◌, sum_by, ℕ, [], All, Contains, IfNone, IfOk, IfSome, OnErr, OnOk, length, map, slice_get};
+ghost use Rattle.std.specs.Prelude.{◌≡◌, ◌≢◌, ◌<◌, ◌≤◌, ◌++◌, sum_by, [], All, Contains, IfNone, IfOk, IfSome, OnErr, OnOk, length, map, slice_get};
 ghost use Rattle.std.specs.List.{AllZip};
 ghost use Rattle.std.specs.Option.{option_to_list};
 ghost use Rattle.vf_base.specs.Base.{fault_number};
 ghost use Rattle.v_design.specs.WellFormed.{KeepsRules};
 ghost use Rattle.copy_laws.specs.Windows.{good_slots};
 ghost use Rattle.fault_shards.specs.Found.{IsFinding, found_faults};
-ghost use Rattle.graded_steps.specs.Behind.{RisesTwice};
-ghost use Rattle.copy_shard.specs.Kept.{fault_kept};
+ghost use Rattle.shard_windows.specs.graded_steps.Behind.{RisesTwice};
+ghost use Rattle.copy_shard.specs.Kept.{IsShard, fault_kept};
 ghost use Rattle.copy_shard.specs.Shards.{FaultKept, StandsBeside, StaysEnded, finding_of, fault_steps_at, findings_of, fresh_shard, places_of, shard_steps};
 
-use crate::advance::advance_all;
-use crate::fresh::fresh_faults;
-use crate::reached::Reached;
-use crate::room::ShardRoom;
 use copy_state::FaultCopy;
 use good_trace::Setup;
 use run_trace::RunWindow;
-use shard_slots::ShardFault;
+use shard_windows::{Reached, ShardFault, ShardRoom, advance_all, fresh_faults};
 use std::alloc::Global;
 use std::marker::{Model, PhantomData};
 use std::mem;
@@ -28,7 +24,6 @@ use vf_base::{FaultId, Finding, NoMemory, Steps};
 
 /// Faults of the world `N` that go beside the good first run from window to window. Contracts see through how many slots of the good first run they have gone, and of
 /// each fault its copy and its end.
-#[derive(Drop)]
 pub struct Shard<N: World> {
     /// So many slots of the good first run.
     gone: u64,
@@ -36,6 +31,19 @@ pub struct Shard<N: World> {
     numbers: Vec<FaultId>,
     faults: Vec<ShardFault>,
     world: PhantomData<N>,
+}
+
+// Written out, so that its parts are let go of here alone.
+impl<N: World> Drop for Shard<N> {
+    fn drop(self) {
+        let Shard {
+            gone: _,
+            reached: _,
+            numbers: _,
+            faults: _,
+            world: _,
+        } = self;
+    }
 }
 
 impl<N: World> Model for Shard<N> {
@@ -48,6 +56,14 @@ impl<N: World> Model for Shard<N> {
     ghost view = { λ s. record { gone = s.gone; faults = map fault_kept s.faults.items } };
 
     ghost invariant = { λ s. IsShard N.design N.plan s.gone s.reached s.numbers.items s.faults.items };
+}
+
+/// What a shard is made of: how far it has come, the numbers of its faults, and these.
+#[derive(Drop)]
+pub(crate) struct ShardParts {
+    pub(crate) reached: Reached,
+    pub(crate) numbers: Vec<FaultId>,
+    pub(crate) faults: Vec<ShardFault>,
 }
 
 /// Puts the finding on a fault behind others, if its grading ended.
@@ -104,7 +120,7 @@ impl<N: World> Shard<N> {
         beside_laws::faults_go_on();
         let design = setup.design();
         let numbers = Vec::from_slice(alloc, faults)?;
-        let fresh = fresh_faults(alloc, faults)?;
+        let fresh = fresh_faults(alloc, faults, false)?;
         Ok(Shard {
             gone: 0,
             reached: Reached { passed: 0, time: 0 },
@@ -112,6 +128,39 @@ impl<N: World> Shard<N> {
             faults: fresh,
             world: PhantomData,
         })
+    }
+
+    /// A shard that has gone through so many slots of the good first run, by its parts.
+    pub(crate) fn from_parts(gone: u64, parts: ShardParts) -> Shard<N>
+        requires { IsShard N.design N.plan gone parts.reached parts.numbers.items parts.faults.items }
+        ensures { result ≡ record { gone = gone; faults = map fault_kept parts.faults.items } }
+    {
+        Shard {
+            gone,
+            reached: parts.reached,
+            numbers: parts.numbers,
+            faults: parts.faults,
+            world: PhantomData,
+        }
+    }
+
+    /// Its parts.
+    pub(crate) fn into_parts(self) -> ShardParts
+        ensures seen { map fault_kept result.faults.items ≡ self.faults }
+        ensures stands { IsShard N.design N.plan self.gone result.reached result.numbers.items result.faults.items }
+    {
+        let Shard {
+            gone: _,
+            reached,
+            numbers,
+            faults,
+            world: _,
+        } = self;
+        ShardParts {
+            reached,
+            numbers,
+            faults,
+        }
     }
 
     /// Takes the shard through the next window of the good first run. `steps` ticks once for each process step that its faulty machines take.
@@ -203,7 +252,7 @@ impl<N: World> Shard<N> {
         ensures complete { length (good_slots N.design N.plan) ≡ self.now.gone → found_faults (findings_of self.now.faults) ≡ places_of self.now.faults }
         ensures steps { KeepsRules N.design → shard_steps N.design N.plan self.now ≤ sum_by (fault_steps_at N.design N.plan) (places_of self.now.faults) }
     {
-        graded_steps::gradings_take_steps();
+        shard_windows::gradings_take_steps();
         let _count = self.faults.len();
     }
 }

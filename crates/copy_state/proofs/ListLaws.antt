@@ -1,5 +1,5 @@
 -- Laws on a list of entries as it is kept.
-use Rattle.std.proofs.Common.{◌≡◌, ℕ, cond, ◌<◌, ◌≤◌, List, [], ◌∷◌, ◌++◌, length, get_or, set, take, drop, map, zero, suc, ◌+◌, refl, ap, sym, subst, ◌∙◌, arith, inl, inr}
+use Rattle.std.proofs.Common.{◌≡◌, ℕ, cond, ◌-◌, ◌<◌, ◌≤◌, List, [], ◌∷◌, ◌++◌, length, get_or, set, take, drop, map, zero, suc, ◌+◌, refl, ap, sym, subst, ◌∙◌, arith, inl, inr}
 use Rattle.std.specs.Prelude.{insert, remove, Some, None}
 use Rattle.std.specs.List.Sorted.{IsNonDecreasingBy}
 use Rattle.std.specs.List.{refill}
@@ -186,3 +186,38 @@ pub first-none : {T : Type 0} (entries : List (Entry T)) (p from : ℕ) → ((k 
 first-none [] p from before past = refl
 first-none (e ∷ es) zero from before past = absurd (omega arith)
 first-none (e ∷ es) (suc p) from before past = first-later from (entry_of e) (map entry_of es) (before zero (omega arith)) ∙ first-none es p from (λ k low. before (suc k) (omega arith)) (omega arith)
+
+-- Numbers beside a place
+
+-- where the last number before it is less, all before it are
+pub all-before : (numbers : List ℕ) (place number : ℕ) → Rise numbers → place ≤ length numbers → (0 < place → get_or numbers (place - 1) 0 < number) → (k : ℕ) → k < place → get_or numbers k 0 < number
+all-before numbers place number up within last k low = elim (cases_lt k (place - 1)) [
+  | inl less ↦
+      let order : get_or numbers k 0 < get_or numbers (place - 1) 0 = up k (place - 1) less (omega (arith, low, within)) in
+      let end : get_or numbers (place - 1) 0 < number = last (omega (arith, low)) in
+      omega (arith, order, end)
+  | inr past ↦
+      let same : place - 1 ≡ k = omega (arith, low, past) in
+      subst (λ j. get_or numbers j 0 < number) same (last (omega (arith, low)))
+]
+
+-- where the one at it is no less, none behind it is
+pub all-behind : (numbers : List ℕ) (place number : ℕ) → Rise numbers → (place < length numbers → number ≤ get_or numbers place 0) → (k : ℕ) → place ≤ k → k < length numbers → number ≤ get_or numbers k 0
+all-behind numbers place number up first k past inside = elim (cases_lt place k) [
+  | inl less ↦
+      let order : get_or numbers place 0 < get_or numbers k 0 = up place k less inside in
+      let here : number ≤ get_or numbers place 0 = first (omega (arith, less, inside)) in
+      omega (arith, order, here)
+  | inr least ↦
+      let same : place ≡ k = omega (arith, past, least) in
+      subst (λ j. number ≤ get_or numbers j 0) same (first (omega (arith, inside, past)))
+]
+
+-- each number that rises with others stands at its place
+pub rise-at : (numbers : List ℕ) (place number : ℕ) → Rise numbers → place < length numbers → get_or numbers place 0 ≡ number → IsAt numbers place number
+rise-at numbers place number up within at = record {
+  within = within;
+  at = at;
+  before = λ k less. subst (λ n. get_or numbers k 0 < n) at (up k place less within);
+  behind = λ k more inside. subst (λ n. n < get_or numbers k 0) at (up place k more inside);
+}

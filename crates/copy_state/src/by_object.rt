@@ -1,10 +1,12 @@
 // The own values of a copy.
 
-ghost use Rattle.std.specs.Prelude.{◌≡◌, [], length, OnOk, OnErr, IfOk};
+ghost use Rattle.std.specs.Prelude.{◌≡◌, [], Some, length, option_map, IfSome, OnOk, OnErr, IfOk};
+ghost use Rattle.vf_base.specs.Base.{object_number};
 ghost use Rattle.v_design.specs.States.{found_or};
 ghost use Rattle.copy_laws.specs.Differences.{own_of, Ascend};
 ghost use Rattle.copy_state.specs.Entries.{with_entry, without_entry, first_from};
 
+use crate::entry::HeldValue;
 use crate::few_values::FewValues;
 use crate::value_table::ValueTable;
 use four_value::Vec4;
@@ -103,6 +105,17 @@ impl ByObject {
         match &self.held {
             HeldValues::Few(few) => few.next(from),
             HeldValues::Many(table) => table.next(from),
+        }
+    }
+
+    /// The first object that isn't before one and has a value, with that. The hint is of the object found before.
+    pub(crate) fn next_held(&self, from: u32, hint: usize) -> Option<HeldValue>
+        ensures next { option_map (λ held. object_number held.object) result ≡ first_from from self.now }
+        ensures value { IfSome result (λ held. own_of self.now (object_number held.object) ≡ Some held.value) }
+    {
+        match &self.held {
+            HeldValues::Few(few) => few.next_held(from, hint),
+            HeldValues::Many(table) => table.next_held(from),
         }
     }
 

@@ -1,6 +1,6 @@
 // A faulty machine as its differences from the good one.
 
-ghost use Rattle.std.specs.Prelude.{◌≡◌, length, map, option_map, IfOk, OnOk, OnErr};
+ghost use Rattle.std.specs.Prelude.{◌≡◌, Some, length, map, option_map, IfOk, IfSome, OnOk, OnErr};
 ghost use Rattle.vf_base.specs.Base.{object_number, process_number, fault_number};
 ghost use Rattle.v_design.specs.Plain.{due_of};
 ghost use Rattle.v_design.specs.States.{found_or};
@@ -11,6 +11,7 @@ ghost use Rattle.copy_state.specs.Kept.{nothing_kept, with_own_value, StandsIn};
 
 use crate::by_object::ByObject;
 use crate::by_process::{ByProcess, copied_states, copied_updates};
+use crate::entry::HeldValue;
 use four_value::Vec4;
 use process_code::ProcState;
 use std::alloc::Global;
@@ -89,6 +90,14 @@ impl FaultCopy {
             None => None,
             Some(object) => Some(ObjectId(object)),
         }
+    }
+
+    /// The first object that isn't before one and has an own value, with that. With the hint of the object that was found before the next one takes no search; any other hint serves too.
+    pub fn next_held(&self, from: ObjectId, hint: usize) -> Option<HeldValue>
+        ensures next { option_map (λ held. object_number held.object) result ≡ first_from (object_number from) self.now.values }
+        ensures value { IfSome result (λ held. own_of self.now.values (object_number held.object) ≡ Some held.value) }
+    {
+        self.values.next_held(from.0, hint)
     }
 
     /// How many objects differ.

@@ -3,12 +3,21 @@
 ghost use Rattle.std.specs.Prelude.{◌≡◌};
 
 use four_value::{Bit, Vec4};
+use vf_base::ObjectId;
 
 /// What is kept under a number: that of an object or of a process.
 #[derive(Clone, Copy, Debug, Drop)]
 pub(crate) struct Entry<T> {
     pub(crate) number: u32,
     pub(crate) kept: T,
+}
+
+/// An object's own value that was found, and a hint where the next one stands.
+#[derive(Clone, Copy, Debug)]
+pub struct HeldValue {
+    pub object: ObjectId,
+    pub value: Vec4,
+    pub hint: usize,
 }
 
 /// What stands in the places of a list that aren't used.

@@ -1,18 +1,19 @@
 // A few own values.
 
-ghost use Rattle.std.specs.Prelude.{◌≡◌, [], map, length, OnOk, OnErr, IfOk};
+ghost use Rattle.std.specs.Prelude.{◌≡◌, [], Some, map, length, option_map, IfSome, OnOk, OnErr, IfOk};
+ghost use Rattle.vf_base.specs.Base.{object_number};
 ghost use Rattle.v_design.specs.States.{found_or};
 ghost use Rattle.copy_laws.specs.Differences.{own_of, Ascend};
 ghost use Rattle.copy_state.specs.Entries.{with_entry, without_entry, first_from};
 
-use crate::entry::Entry;
-use crate::find::{count_before, find};
+use crate::entry::{Entry, HeldValue};
+use crate::find::{count_before, count_near, find};
 use crate::value_table::ValueTable;
 use four_value::Vec4;
 use smallvec::SmallVec;
 use std::alloc::Global;
 use std::marker::Model;
-use vf_base::NoMemory;
+use vf_base::{NoMemory, ObjectId};
 
 /// A list of values by object, in ascending order, of which contracts see each with its object's number.
 #[derive(Drop)]
@@ -93,6 +94,24 @@ impl FewValues {
         let place = count_before(values, from);
         if place < values.len() {
             return Some(values[place].number);
+        }
+        None
+    }
+
+    /// The first object that isn't before one and has a value, with that. The hint is of the object found before.
+    pub(crate) fn next_held(&self, from: u32, hint: usize) -> Option<HeldValue>
+        ensures next { option_map (λ held. object_number held.object) result ≡ first_from from self.now }
+        ensures value { IfSome result (λ held. own_of self.now (object_number held.object) ≡ Some held.value) }
+    {
+        let values = self.values.as_slice();
+        let place = count_near(values, from, hint);
+        if place < values.len() {
+            let entry = values[place];
+            return Some(HeldValue {
+                object: ObjectId(entry.number),
+                value: entry.kept,
+                hint: place + 1,
+            });
         }
         None
     }

@@ -1,15 +1,17 @@
 // Many own values.
 
-ghost use Rattle.std.specs.Prelude.{◌≡◌, ◌<◌, ◌≤◌, ◌^◌, [], length, vec_len, IfOk, OnOk, OnErr};
+ghost use Rattle.std.specs.Prelude.{◌≡◌, ◌<◌, ◌≤◌, ◌^◌, [], Some, length, vec_len, option_map, IfOk, IfSome, OnOk, OnErr};
+ghost use Rattle.vf_base.specs.Base.{object_number};
 ghost use Rattle.v_design.specs.States.{found_or};
 ghost use Rattle.copy_laws.specs.Differences.{own_of, Ascend};
 ghost use Rattle.copy_state.specs.Entries.{with_entry, without_entry, first_from};
 ghost use Rattle.copy_state.specs.Tables.{entries_from};
 
+use crate::entry::HeldValue;
 use four_value::Vec4;
 use std::alloc::Global;
 use std::marker::Model;
-use vf_base::NoMemory;
+use vf_base::{NoMemory, ObjectId};
 
 /// A table of values by object, of which contracts see each that is there with its object's number, in ascending order.
 #[derive(Drop)]
@@ -100,6 +102,23 @@ impl ValueTable {
         'places: for place in from as usize..self.values.len() {
             if self.values[place].is_some() {
                 return Some(place as u32);
+            }
+        }
+        None
+    }
+
+    /// The first object that isn't before one and has a value, with that.
+    pub(crate) fn next_held(&self, from: u32) -> Option<HeldValue>
+        ensures next { option_map (λ held. object_number held.object) result ≡ first_from from self.now }
+        ensures value { IfSome result (λ held. own_of self.now (object_number held.object) ≡ Some held.value) }
+    {
+        'places: for place in from as usize..self.values.len() {
+            if let Some(value) = self.values[place] {
+                return Some(HeldValue {
+                    object: ObjectId(place as u32),
+                    value,
+                    hint: 0,
+                });
             }
         }
         None

@@ -1,27 +1,29 @@
 -- How the grading of a fault goes through a window (strobes and slots by IEEE 1364-2001, clause 5).
 use Rattle.std.proofs.Common.{◌≡◌, ℕ, zero, suc, ◌<◌, ◌≤◌, Bool, true, false, List, [], ◌∷◌, ◌++◌, map, drop, refl, sym, ap, subst, ◌∙◌, arith}
 use Rattle.std.specs.Prelude.{Option, Some, None, is_some}
-use Rattle.vf_base.specs.Base.{ReportedPair}
+use Rattle.vf_base.specs.Base.{ReportedPair, WatchedBit}
 use Rattle.vf_base.specs.Lists.{AllHold}
 use Rattle.vf_base.specs.declared.finding.End.{End}
 use Rattle.vf_base.specs.declared.finding.Side.TheVariants.{Good}
 use Rattle.v_design.specs.Designs.{FlatDesign, StuckAt, TestPlan, faulty_machine}
-use Rattle.v_design.specs.Grades.{FaultGrade, Judged, Raced, Race, Stop, verdict_by}
+use Rattle.v_design.specs.Grades.{FaultGrade, Judged, Raced, Race, Stop}
 use Rattle.v_design.specs.Plain.{grade_of}
 use Rattle.v_design.specs.WellFormed.{IsPlan, KeepsRules}
-use Rattle.strobe_detect.specs.Graders.{GraderState}
 use Rattle.kept_samples.specs.Plain.{sample_of}
 use Rattle.kept_samples.specs.declared.kept.Sample.{Sample as Kept}
 use Rattle.copy_laws.specs.Differences.{Differences}
 use Rattle.copy_laws.specs.Windows.{WindowEnd, IsOpen, IsThrough, IsRaced, IsBesideAt, time_at}
-use Rattle.machine.specs.declared.parts.Machine.{Machine as Simulated}
+use Rattle.copy_room.specs.machine.declared.parts.Machine.{Machine as Simulated}
 use Rattle.good_trace.specs.Slots.{end_of}
 use Rattle.grade_laws.specs.Ahead.{StopsAfter}
 use Rattle.grade_laws.specs.Decisions.{NotBefore}
 use Rattle.grade_laws.specs.Grading.{faulty_stop, good_stop}
 use Rattle.beside_laws.specs.Stands.{RunsStand}
-use Rattle.beside_laws.specs.Gradings.{EndsAt, GradingGoesOn, GradingsEnd}
-use Rattle.beside_laws.specs.Shards.{FaultsGoOn, found_fault}
+use Rattle.beside_laws.specs.GoodRuns.{IsAllAt}
+use Rattle.beside_laws.specs.Shards.{found_fault}
+use Rattle.fault_strobes.specs.Full.{IsFull}
+use Rattle.fault_strobes.specs.Said.{Said, keeps, plan_by, verdict_said}
+use Rattle.fault_strobes.specs.Strobes.{EndsWith, StrobesGoOn, StrobedFaultsGoOn, StrobedGradingsEnd}
 use Rattle.window_grade.specs.Grading.{CanGrade, GradesThrough, IsGradingAt}
 use Rattle.window_grade.specs.Running.{StaysOn}
 use Rattle.window_strobes.specs.Leading.{EndsSo, last_before}
@@ -60,7 +62,8 @@ not-before-zero : (stop : Option Stop) → NotBefore 0 stop
 not-before-zero None = tt
 not-before-zero (Some stop) = omega arith
 
-module _ (stand : RunsStand) (ends : GradingsEnd) (faults : FaultsGoOn) (strobes : WindowStrobes) (old : Simulated) (start : GraderState) (of : CanGradeWindow strobes old start) where
+module _ (stand : RunsStand) (ends : StrobedGradingsEnd) (faults : StrobedFaultsGoOn) (watched : List WatchedBit) (strobes : WindowStrobes) (old : Simulated) (start : Said)
+    (of : CanGradeWindow watched strobes old start) where
   rules : KeepsRules of.design
   rules = of.at.design_rules
 
@@ -71,41 +74,49 @@ module _ (stand : RunsStand) (ends : GradingsEnd) (faults : FaultsGoOn) (strobes
   later = strobes_left of.plan strobes
 
   -- a grading that ended by the time to which the window leads
-  found-by : (ending : WindowEnd) (until : ℕ) (found : FaultGrade) (d : Differences) → EndsSo of.design of.plan of.through ending (Some until) → EndsAt of.design of.plan of.fault until found →
-      IsBesideAt of.design of.plan of.through (found_fault of.fault d found)
-  found-by IsOpen until found d so ended =
-      let same : until ≡ so.0 = some-is until so.0 so.1 in faults.ends of.design of.plan of.fault of.through so.0 until found d so.2 ended (omega (arith, same))
-  found-by IsThrough until found d so ended = faults.ends_all of.design of.plan of.fault of.through until found d rules of_plan so.0 ended
-  found-by (IsRaced pair) until found d so ended = faults.ends_all of.design of.plan of.fault of.through until found d rules of_plan so.0 ended
+  found-by : (ending : WindowEnd) (until : ℕ) (found : FaultGrade) (said : Said) (d : Differences) → EndsSo of.design of.plan of.through ending (Some until) →
+      EndsWith of.design of.plan of.fault until found said → IsBesideAt of.design (plan_by (keeps said) of.plan) of.through (found_fault of.fault d found)
+  found-by IsOpen until found said d so ended =
+      let same : until ≡ so.0 = some-is until so.0 so.1 in
+      faults.ends of.design of.plan of.fault (keeps said) of.through so.0 until found d so.2 ended.ends (omega (arith, same))
+  found-by IsThrough until found said d so ended = faults.ends_all of.design of.plan of.fault (keeps said) of.through until found d rules of_plan so.0 ended.ends
+  found-by (IsRaced pair) until found said d so ended = faults.ends_all of.design of.plan of.fault (keeps said) of.through until found d rules of_plan so.0 ended.ends
 
-  passes-early : (until : Option ℕ) (end : End) (m : Simulated) (grader : GraderState) → EndsSo of.design of.plan of.through (end_of strobes.ending) until →
-      ComesToTime of.design of.plan of.fault of.before later until (Some end) m grader → PassesWindow of.design of.plan of.fault of.through later (Some end) m grader
-  passes-early None end m grader so comes = (let none : Some end ≡ None = comes.0 in cc)
-  passes-early (Some until) end m grader so comes = λ d. found-by (end_of strobes.ending) until (grade_of end) d so comes
+  -- one that ended with the good first run
+  found-all : (found : FaultGrade) (own : End) (ended : ℕ) (m : Simulated) (said : Said) → grade_of own ≡ found → IsAllAt of.design of.plan of.through →
+      EndsWith of.design of.plan of.fault ended found said → PassesWindow of.design of.plan of.fault of.through later (Some own) m said
+  found-all found own ended m said is all e =
+      subst
+      (λ (f : FaultGrade). ((d : Differences) → IsBesideAt of.design (plan_by (keeps said) of.plan) of.through (found_fault of.fault d f)) × IsFull of.design of.plan of.fault f said)
+      (sym is) (λ d. faults.ends_all of.design of.plan of.fault (keeps said) of.through ended found d rules of_plan all e.ends, e.full)
+
+  passes-early : (until : Option ℕ) (end : End) (m : Simulated) (said : Said) → EndsSo of.design of.plan of.through (end_of strobes.ending) until →
+      ComesToTime of.design of.plan of.fault of.before later until (Some end) m said → PassesWindow of.design of.plan of.fault of.through later (Some end) m said
+  passes-early None end m said so comes = (let none : Some end ≡ None = comes.0 in cc)
+  passes-early (Some until) end m said so comes = (λ d. found-by (end_of strobes.ending) until (grade_of end) said d so comes, comes.full)
 
   -- it ended by then
-  pub passes-found : (end : Option End) (m : Simulated) (grader : GraderState) → is_some end ≡ true →
-      ComesToTime of.design of.plan of.fault of.before later strobes.until end m grader → PassesWindow of.design of.plan of.fault of.through later end m grader
-  passes-found None m grader some comes = cc
-  passes-found (Some end) m grader some comes = passes-early strobes.until end m grader of.are.leads.ends comes
+  pub passes-found : (end : Option End) (m : Simulated) (said : Said) → is_some end ≡ true →
+      ComesToTime of.design of.plan of.fault of.before later strobes.until end m said → PassesWindow of.design of.plan of.fault of.through later end m said
+  passes-found None m said some comes = cc
+  passes-found (Some end) m said some comes = passes-early strobes.until end m said of.are.leads.ends comes
 
   -- slots come after the window
-  behind-open : (until : Option ℕ) (end : Option End) (m : Simulated) (grader : GraderState) → EndsSo of.design of.plan of.through IsOpen until →
-      ComesToTime of.design of.plan of.fault of.before later until None m grader → EndsBehind IsOpen grader end → PassesWindow of.design of.plan of.fault of.through later end m grader
-  behind-open until end m grader so comes behind =
-      subst (λ (o : Option End). PassesWindow of.design of.plan of.fault of.through later o m grader) (sym behind)
-      (record { time = so.0; runs_on = so.2; at = subst (λ (o : Option ℕ). ComesToTime of.design of.plan of.fault of.before later o None m grader) so.1 comes })
+  behind-open : (until : Option ℕ) (end : Option End) (m : Simulated) (said : Said) → EndsSo of.design of.plan of.through IsOpen until →
+      ComesToTime of.design of.plan of.fault of.before later until None m said → EndsBehind IsOpen said end → PassesWindow of.design of.plan of.fault of.through later end m said
+  behind-open until end m said so comes behind =
+      subst (λ (o : Option End). PassesWindow of.design of.plan of.fault of.through later o m said) (sym behind)
+      (record { time = so.0; runs_on = so.2; at = subst (λ (o : Option ℕ). ComesToTime of.design of.plan of.fault of.before later o None m said) so.1 comes })
 
   -- the good first run is through: the verdict of the strobes
-  behind-through : (end : Option End) (m : Simulated) (grader : GraderState) → strobes.until ≡ Some of.plan.end → EndsSo of.design of.plan of.through IsThrough strobes.until →
-      ComesToTime of.design of.plan of.fault of.before later strobes.until None m grader → EndsBehind IsThrough grader end → PassesWindow of.design of.plan of.fault of.through later end m grader
-  behind-through end m grader e so comes behind =
-      subst (λ (o : Option End). PassesWindow of.design of.plan of.fault of.through later o m grader) (sym behind.1)
-      (λ d. subst (λ (found : FaultGrade). IsBesideAt of.design of.plan of.through (found_fault of.fault d found)) (sym behind.2)
-      (faults.ends_all of.design of.plan of.fault of.through of.plan.end (Judged (verdict_by grader.hard grader.possible)) d rules of_plan so.0 verdict))
+  behind-through : (end : Option End) (m : Simulated) (said : Said) → strobes.until ≡ Some of.plan.end → EndsSo of.design of.plan of.through IsThrough strobes.until →
+      ComesToTime of.design of.plan of.fault of.before later strobes.until None m said → EndsBehind IsThrough said end → PassesWindow of.design of.plan of.fault of.through later end m said
+  behind-through end m said e so comes behind =
+      subst (λ (o : Option End). PassesWindow of.design of.plan of.fault of.through later o m said) (sym behind.1)
+      (found-all (Judged (verdict_said said)) behind.0 of.plan.end m said behind.2 so.0 verdict)
     where
-      at : IsGradingAt of.design of.plan of.fault (Some of.plan.end) m [] later grader
-      at = subst (λ (o : Option ℕ). ComesToTime of.design of.plan of.fault of.before later o None m grader) e comes
+      at : IsGradingAt of.design of.plan of.fault (Some of.plan.end) m [] later said
+      at = subst (λ (o : Option ℕ). ComesToTime of.design of.plan of.fault of.before later o None m said) e comes
 
       none : later ≡ []
       none =
@@ -113,67 +124,66 @@ module _ (stand : RunsStand) (ends : GradingsEnd) (faults : FaultsGoOn) (strobes
           (all-right (λ strobe. strobe ≤ of.plan.end) at.passed later (subst (AllHold (λ strobe. strobe ≤ of.plan.end)) at.grading.strobes of_plan.in_time))
           (left-after of.design of.plan of.before of.through strobes of.are of.plan.end e)
 
-      verdict : EndsAt of.design of.plan of.fault of.plan.end (Judged (verdict_by grader.hard grader.possible))
+      verdict : EndsWith of.design of.plan of.fault of.plan.end (Judged (verdict_said said)) said
       verdict =
-          let goes : GradingGoesOn of.design of.plan of.fault (Some of.plan.end) at.passed [] grader =
-          subst (λ next. GradingGoesOn of.design of.plan of.fault (Some of.plan.end) at.passed next grader) none at.grading in
-          ends.verdict of.design of.plan of.fault (Some of.plan.end) at.passed grader rules of_plan goes so.1
+          let goes : StrobesGoOn of.design of.plan of.fault (Some of.plan.end) at.passed [] said =
+          subst (λ next. StrobesGoOn of.design of.plan of.fault (Some of.plan.end) at.passed next said) none at.grading in
+          ends.verdict of.design of.plan of.fault (Some of.plan.end) at.passed said rules of_plan goes so.1
           (stand.never (faulty_machine of.design of.fault) of.plan.end rules at.grading.faulty)
 
   -- the good machine has a race behind the time, or at time 0
-  behind-raced : (pair : ReportedPair) (end : Option End) (m : Simulated) (grader : GraderState) → EndsSo of.design of.plan of.through (IsRaced pair) strobes.until →
-      ComesToTime of.design of.plan of.fault of.before later strobes.until None m grader → EndsBehind (IsRaced pair) grader end →
-      PassesWindow of.design of.plan of.fault of.through later end m grader
-  behind-raced pair end m grader so comes behind =
-      subst (λ (o : Option End). PassesWindow of.design of.plan of.fault of.through later o m grader) (sym behind.1)
-      (λ d. subst (λ (found : FaultGrade). IsBesideAt of.design of.plan of.through (found_fault of.fault d found)) (sym behind.2)
-      (faults.ends_all of.design of.plan of.fault of.through pair.time (Raced Good pair) d rules of_plan so.0 (go pair.time refl)))
+  behind-raced : (pair : ReportedPair) (end : Option End) (m : Simulated) (said : Said) → EndsSo of.design of.plan of.through (IsRaced pair) strobes.until →
+      ComesToTime of.design of.plan of.fault of.before later strobes.until None m said → EndsBehind (IsRaced pair) said end →
+      PassesWindow of.design of.plan of.fault of.through later end m said
+  behind-raced pair end m said so comes behind =
+      subst (λ (o : Option End). PassesWindow of.design of.plan of.fault of.through later o m said) (sym behind.1)
+      (found-all (Raced Good pair) behind.0 pair.time m said behind.2 so.0 (go pair.time refl))
     where
-      by : (now : Option ℕ) → IsGradingAt of.design of.plan of.fault now m [] later grader → AllHold (λ strobe. pair.time ≤ strobe) later →
-          NotBefore pair.time (faulty_stop of.design of.plan of.fault) → EndsAt of.design of.plan of.fault pair.time (Raced Good pair)
+      by : (now : Option ℕ) → IsGradingAt of.design of.plan of.fault now m [] later said → AllHold (λ strobe. pair.time ≤ strobe) later →
+          NotBefore pair.time (faulty_stop of.design of.plan of.fault) → EndsWith of.design of.plan of.fault pair.time (Raced Good pair) said
       by now at since before =
-          ends.good of.design of.plan of.fault now at.passed later grader (record { time = pair.time; outcome = Race pair }) (Raced Good pair) at.grading so.1 since before refl
+          ends.good of.design of.plan of.fault now at.passed later said (record { time = pair.time; outcome = Race pair }) (Raced Good pair) at.grading so.1 since before refl
 
-      go : (time : ℕ) → pair.time ≡ time → EndsAt of.design of.plan of.fault pair.time (Raced Good pair)
+      go : (time : ℕ) → pair.time ≡ time → EndsWith of.design of.plan of.fault pair.time (Raced Good pair) said
       go zero e =
           let none : strobes.until ≡ None = so.2 ∙ ap last_before e in
-          let at = subst (λ (o : Option ℕ). ComesToTime of.design of.plan of.fault of.before later o None m grader) none comes in
+          let at = subst (λ (o : Option ℕ). ComesToTime of.design of.plan of.fault of.before later o None m said) none comes in
           by (time_at of.design of.plan of.before) at.1 (subst (λ t. AllHold (λ strobe. t ≤ strobe) later) (sym e) (since-zero later))
           (subst (λ t. NotBefore t (faulty_stop of.design of.plan of.fault)) (sym e) (not-before-zero (faulty_stop of.design of.plan of.fault)))
       go (suc time) e =
           let some : strobes.until ≡ Some time = so.2 ∙ ap last_before e in
-          let at : IsGradingAt of.design of.plan of.fault (Some time) m [] later grader =
-          subst (λ (o : Option ℕ). ComesToTime of.design of.plan of.fault of.before later o None m grader) some comes in
+          let at : IsGradingAt of.design of.plan of.fault (Some time) m [] later said =
+          subst (λ (o : Option ℕ). ComesToTime of.design of.plan of.fault of.before later o None m said) some comes in
           by (Some time) at
           (subst (λ t. AllHold (λ strobe. t ≤ strobe) later) (sym e) (since-next time later (left-after of.design of.plan of.before of.through strobes of.are time some)))
           (subst (λ t. NotBefore t (faulty_stop of.design of.plan of.fault)) (sym e) (not-before-next time (faulty_stop of.design of.plan of.fault) at.grading.faulty))
 
-  behind : (ending : WindowEnd) (end : Option End) (m : Simulated) (grader : GraderState) → EndsSo of.design of.plan of.through ending strobes.until →
-      ComesToTime of.design of.plan of.fault of.before later strobes.until None m grader → EndsBehind ending grader end → PassesWindow of.design of.plan of.fault of.through later end m grader
-  behind IsOpen end m grader so comes ended = behind-open strobes.until end m grader so comes ended
-  behind IsThrough end m grader so comes ended = behind-through end m grader so.2 so comes ended
-  behind (IsRaced pair) end m grader so comes ended = behind-raced pair end m grader so comes ended
+  behind : (ending : WindowEnd) (end : Option End) (m : Simulated) (said : Said) → EndsSo of.design of.plan of.through ending strobes.until →
+      ComesToTime of.design of.plan of.fault of.before later strobes.until None m said → EndsBehind ending said end → PassesWindow of.design of.plan of.fault of.through later end m said
+  behind IsOpen end m said so comes ended = behind-open strobes.until end m said so comes ended
+  behind IsThrough end m said so comes ended = behind-through end m said so.2 so comes ended
+  behind (IsRaced pair) end m said so comes ended = behind-raced pair end m said so comes ended
 
   -- it came to that time: how the window ends tells
-  pub passes-on : (early end : Option End) (m : Simulated) (grader : GraderState) → is_some early ≡ false →
-      ComesToTime of.design of.plan of.fault of.before later strobes.until early m grader → EndsBehind (end_of strobes.ending) grader end →
-      PassesWindow of.design of.plan of.fault of.through later end m grader
-  passes-on None end m grader none comes ended = behind (end_of strobes.ending) end m grader of.are.leads.ends comes ended
-  passes-on (Some found) end m grader none comes ended = cc
+  pub passes-on : (early end : Option End) (m : Simulated) (said : Said) → is_some early ≡ false →
+      ComesToTime of.design of.plan of.fault of.before later strobes.until early m said → EndsBehind (end_of strobes.ending) said end →
+      PassesWindow of.design of.plan of.fault of.through later end m said
+  passes-on None end m said none comes ended = behind (end_of strobes.ending) end m said of.are.leads.ends comes ended
+  passes-on (Some found) end m said none comes ended = cc
 
 -- To the time to which a window leads
 
-module _ (strobes : WindowStrobes) (m : Simulated) (grader : GraderState) (of : CanGradeWindow strobes m grader) where
+module _ (watched : List WatchedBit) (strobes : WindowStrobes) (m : Simulated) (said : Said) (of : CanGradeWindow watched strobes m said) where
   -- there is no such time, and no sample is next
-  pub comes-none : strobes.until ≡ None → ComesToTime of.design of.plan of.fault of.before (strobes_left of.plan strobes) strobes.until None m grader
+  pub comes-none : strobes.until ≡ None → ComesToTime of.design of.plan of.fault of.before (strobes_left of.plan strobes) strobes.until None m said
   comes-none e =
-      subst (λ (o : Option ℕ). ComesToTime of.design of.plan of.fault of.before (strobes_left of.plan strobes) o None m grader) (sym e) (refl, at strobes.samples.items none of.at)
+      subst (λ (o : Option ℕ). ComesToTime of.design of.plan of.fault of.before (strobes_left of.plan strobes) o None m said) (sym e) (refl, at strobes.samples.items none of.at)
     where
       none : strobes.samples.items ≡ []
       none = subst (λ (o : Option ℕ). AreSeenIf of.design of.plan o (drop strobes.passed of.plan.strobes) strobes.samples.items) e of.are.seen
 
-      at : (samples : List Kept) → samples ≡ [] → IsGradingAt of.design of.plan of.fault (time_at of.design of.plan of.before) m (map sample_of samples) (strobes_left of.plan strobes) grader →
-          IsGradingAt of.design of.plan of.fault (time_at of.design of.plan of.before) m [] (strobes_left of.plan strobes) grader
+      at : (samples : List Kept) → samples ≡ [] → IsGradingAt of.design of.plan of.fault (time_at of.design of.plan of.before) m (map sample_of samples) (strobes_left of.plan strobes) said →
+          IsGradingAt of.design of.plan of.fault (time_at of.design of.plan of.before) m [] (strobes_left of.plan strobes) said
       at [] e a = a
       at (sample ∷ samples) e a = cc
 
@@ -182,16 +192,16 @@ module _ (strobes : WindowStrobes) (m : Simulated) (grader : GraderState) (of : 
   stays-same = record { same_machine = refl; standing = of.at.at.standing; notes = refl }
 
   -- it was run to that time
-  pub comes-some : (until : ℕ) → (e : strobes.until ≡ Some until) → (samples : List Kept) → samples ≡ strobes.samples.items → (end : Option End) (new : Simulated) (after : GraderState) →
-      ((own : CanGrade samples until m grader) → GradesThrough own.design own.plan own.fault own.later until end new after) →
+  pub comes-some : (until : ℕ) → (e : strobes.until ≡ Some until) → (samples : List Kept) → samples ≡ strobes.samples.items → (end : Option End) (new : Simulated) (after : Said) →
+      ((own : CanGrade watched samples until m said) → GradesThrough own.design own.plan own.fault own.later until end new after) →
       ComesToTime of.design of.plan of.fault of.before (strobes_left of.plan strobes) strobes.until end new after
   comes-some until e samples same end new after grades =
       subst (λ (o : Option ℕ). ComesToTime of.design of.plan of.fault of.before (strobes_left of.plan strobes) o end new after) (sym e)
       (read samples same grades)
     where
-      read : (samples : List Kept) → samples ≡ strobes.samples.items → ((own : CanGrade samples until m grader) → GradesThrough own.design own.plan own.fault own.later until end new after) →
+      read : (samples : List Kept) → samples ≡ strobes.samples.items → ((own : CanGrade watched samples until m said) → GradesThrough own.design own.plan own.fault own.later until end new after) →
           GradesThrough of.design of.plan of.fault (strobes_left of.plan strobes) until end new after
       read samples same grades =
-          (subst (λ (l : List Kept). ((own : CanGrade l until m grader) → GradesThrough own.design own.plan own.fault own.later until end new after) →
+          (subst (λ (l : List Kept). ((own : CanGrade watched l until m said) → GradesThrough own.design own.plan own.fault own.later until end new after) →
           GradesThrough of.design of.plan of.fault (strobes_left of.plan strobes) until end new after) (sym same)
-          (λ given. given (can-grade strobes m grader until of e))) grades
+          (λ given. given (can-grade watched strobes m said until of e))) grades

@@ -7,3 +7,5 @@ pub mod Keeping
 pub mod Starting
 pub mod Rules
 pub mod Entering
+pub use Rattle.window_strobes.proofs as window_strobes
+pub use Rattle.fault_grade.proofs as fault_grade

@@ -2,17 +2,18 @@
 use Rattle.std.proofs.Common.{◌≡◌, ℕ, ◌+◌, ◌<◌, ◌≤◌, ◌^◌, List, [], ◌∷◌, ◌++◌, map, take, drop, length, refl, sym, ap, subst, ◌∙◌, arith}
 use Rattle.std.specs.Prelude.{Option, Some, None}
 use Rattle.std.proofs.lemmas.List.{append_cancel_right, drop-drop, take-append-drop}
+use Rattle.vf_base.specs.Base.{WatchedBit}
 use Rattle.vf_base.specs.Lists.{AllHold}
 use Rattle.v_design.specs.Designs.{FlatDesign, TestPlan}
 use Rattle.v_design.specs.Grades.{Sample, Stop}
 use Rattle.v_design.specs.WellFormed.{IsPlan}
 use Rattle.kept_samples.specs.Plain.{sample_of}
 use Rattle.kept_samples.specs.declared.kept.Sample.{Sample as Kept}
-use Rattle.strobe_detect.specs.Graders.{GraderState}
 use Rattle.copy_laws.specs.Windows.{time_at}
-use Rattle.machine.specs.declared.parts.Machine.{Machine as Simulated}
+use Rattle.copy_room.specs.machine.declared.parts.Machine.{Machine as Simulated}
 use Rattle.grade_laws.specs.Ahead.{StopsAfter}
 use Rattle.grade_laws.specs.Grading.{good_seen, good_stop, times}
+use Rattle.fault_strobes.specs.Said.{Said}
 use Rattle.window_grade.specs.Grading.{CanGrade}
 use Rattle.window_strobes.specs.Leading.{IsLed}
 use Rattle.window_strobes.specs.Seen.{AreSeen, AreSeenIf}
@@ -87,14 +88,15 @@ module _ (design : FlatDesign) (plan : TestPlan) (before through : ℕ) (strobes
   left-after until e = subst (λ l. AllHold (λ strobe. until < strobe) l) (drop-drop (length strobes.samples.items) strobes.passed plan.strobes) (seen-at until e).after
 
 -- a grading may go to the time to which the window leads
-abbrev pub can-grade : (strobes : WindowStrobes) (m : Simulated) (grader : GraderState) (until : ℕ) (of : CanGradeWindow strobes m grader) → strobes.until ≡ Some until →
-    CanGrade strobes.samples.items until m grader
-can-grade strobes m grader until of e = record {
+abbrev pub can-grade : (watched : List WatchedBit) (strobes : WindowStrobes) (m : Simulated) (said : Said) (until : ℕ) (of : CanGradeWindow watched strobes m said) → strobes.until ≡ Some until →
+    CanGrade watched strobes.samples.items until m said
+can-grade watched strobes m said until of e = record {
   design = of.design;
   plan = of.plan;
   fault = of.fault;
   now = time_at of.design of.plan of.before;
   later = strobes_left of.plan strobes;
+  watched_are = of.watched_are;
   at = of.at;
   since = (of.are.leads.led until e).since;
   by_then = (seen-at of.design of.plan of.before of.through strobes of.are until e).by_then;

@@ -5,16 +5,16 @@ ghost use Rattle.v_design.specs.Plain.{fault_of};
 ghost use Rattle.window_strobes.specs.Strobes.{passed_behind};
 ghost use Rattle.copy_window.specs.Passing.{CanBegin};
 ghost use Rattle.graded_steps.specs.Behind.{RisesWithin};
-ghost use Rattle.copy_window.specs.ShardFaults.{IsShardFault, steps_taken};
+ghost use Rattle.copy_window.specs.ShardFaults.{IsShardFault, SameFault, steps_taken};
 
 use crate::fault::ShardFault;
 use crate::settle::settle;
 use causal_monitor::SlotLog;
+use copy_room::Machine;
+use fault_strobes::strobed_gradings_go_on;
 use good_trace::{Setup, TraceWindow};
-use machine::Machine;
 use std::alloc::Global;
 use std::sync::ledger::Ledger;
-use strobe_detect::Grader;
 use v_design::{Fault, World};
 use vf_base::{NoMemory, Steps};
 use window_grade::machines_stand;
@@ -40,16 +40,16 @@ pub fn begin_fault<N: World, L: Ledger>(
     requires end { window.now.before + end ≤ window.now.through }
     requires fault { CanBegin N.design N.plan window.now.before (window.now.before + end) strobes.now (fault_of fault) own.old }
     ensures fault { OnOk result (IsShardFault N.design N.plan (window.now.before + end) (passed_behind strobes.now) own.new) }
-    ensures place { OnOk result (own.new.copy.fault ≡ own.old.copy.fault) }
+    ensures place { OnOk result (SameFault own.old own.new) }
     ensures ticks { OnOk result (RisesWithin (steps_taken N.design N.plan window.now.before (fault_of fault) None)
         (steps_taken N.design N.plan (window.now.before + end) (fault_of fault) own.new.end) steps.old steps.new) }
 {
-    beside_laws::gradings_go_on();
+    strobed_gradings_go_on();
     machines_stand();
     let design = setup.design();
     let plan = setup.plan();
     let mut machine = Machine::new(alloc, design, setup.graph(), Some(fault))?;
-    let mut grader = Grader::new(plan.watched.as_slice());
+    own.strobed.forget();
     settle(
         alloc,
         setup,
@@ -57,7 +57,6 @@ pub fn begin_fault<N: World, L: Ledger>(
         end,
         strobes,
         &mut machine,
-        &mut grader,
         log,
         own,
         steps,

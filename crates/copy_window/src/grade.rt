@@ -1,10 +1,13 @@
 // The grading of a fault through a window.
 
-ghost use Rattle.std.specs.Prelude.{◌≡◌, IfOk, None};
+ghost use Rattle.std.specs.Prelude.{◌≡◌, IfOk, None, OnOk, map};
+ghost use Rattle.vf_base.specs.Base.{watched_bit};
 ghost use Rattle.v_design.specs.Grades.{Judged};
 ghost use Rattle.v_design.specs.Plain.{grade_of};
 ghost use Rattle.strobe_detect.specs.Verdicts.{verdict_view};
 ghost use Rattle.good_trace.specs.Slots.{end_of};
+ghost use Rattle.fault_strobes.specs.Said.{keeps};
+ghost use Rattle.fault_strobes.specs.Shown.{said_of};
 ghost use Rattle.window_grade.specs.Running.{StaysOn};
 ghost use Rattle.window_strobes.specs.Strobes.{strobes_left};
 ghost use Rattle.copy_laws.specs.Windows.{time_at};
@@ -13,11 +16,13 @@ ghost use Rattle.copy_window.specs.Passing.{CanGradeWindow, ComesToTime, TicksIf
 ghost use Rattle.copy_window.specs.ShardFaults.{steps_taken};
 
 use causal_monitor::SlotLog;
+use copy_room::Machine;
+use fault_strobes::{Strobed, strobed_faults_go_on, strobed_gradings_end};
 use good_trace::GoodEnd;
-use machine::Machine;
+use std::alloc::Global;
 use std::sync::ledger::Ledger;
-use strobe_detect::{Grade, Grader};
-use vf_base::{End, NoMemory, Side, Steps};
+use strobe_detect::Grade;
+use vf_base::{End, NoMemory, Side, Steps, WatchBit};
 use window_grade::grade_through;
 use window_strobes::WindowStrobes;
 
@@ -33,36 +38,39 @@ fn end_by_strobes(verdict: Grade) -> End
 }
 
 /// How a grading ends behind a window, if it does, that hasn't ended before.
-pub fn end_behind(ending: GoodEnd, grader: &Grader<'_>) -> Option<End>
-    ensures { EndsBehind (end_of ending) grader.now result }
+pub fn end_behind(ending: GoodEnd, strobed: &Strobed) -> Option<End>
+    ensures { EndsBehind (end_of ending) (said_of strobed.now) result }
 {
     match ending {
         GoodEnd::Open => None,
-        GoodEnd::Through => Some(end_by_strobes(grader.verdict())),
+        GoodEnd::Through => Some(end_by_strobes(strobed.verdict())),
         GoodEnd::Raced(pair) => Some(End::Race(Side::Good, pair)),
     }
 }
 
 /// Runs a faulty machine to the time to which a window leads, if there is one. The answer is the grading's end, where it comes by then.
 fn grade_to<L: Ledger>(
+    alloc: Global,
     log: &mut SlotLog,
     machine: &mut Machine<'_>,
-    grader: &mut Grader<'_>,
+    watched: &[WatchBit],
+    strobed: &mut Strobed,
     strobes: &WindowStrobes,
     steps: &mut Steps<L>,
 ) -> Result<Option<End>, NoMemory>
-    requires { CanGradeWindow strobes.now machine.old grader.old }
-    ensures comes { IfOk result (λ end. (of : CanGradeWindow strobes.now machine.old grader.old) →
-        ComesToTime of.design of.plan of.fault of.before (strobes_left of.plan strobes.now) strobes.now.until end machine.new grader.new) }
+    requires { CanGradeWindow (map watched_bit watched.now) strobes.now machine.old (said_of strobed.old) }
+    ensures comes { IfOk result (λ end. (of : CanGradeWindow (map watched_bit watched.now) strobes.now machine.old (said_of strobed.old)) →
+        ComesToTime of.design of.plan of.fault of.before (strobes_left of.plan strobes.now) strobes.now.until end machine.new (said_of strobed.new)) }
     ensures stays { IfOk result (λ _. StaysOn machine.old machine.new) }
-    ensures ticks { IfOk result (λ end. (of : CanGradeWindow strobes.now machine.old grader.old) →
+    ensures kind { OnOk result (keeps (said_of strobed.new) ≡ keeps (said_of strobed.old)) }
+    ensures ticks { IfOk result (λ end. (of : CanGradeWindow (map watched_bit watched.now) strobes.now machine.old (said_of strobed.old)) →
         TicksIf of.design of.plan of.fault (time_at of.design of.plan of.before) strobes.now.until end steps.old steps.new) }
 {
     match strobes.until {
         None => Ok(None),
         Some(until) => {
             let samples = strobes.samples.as_slice();
-            let end = grade_through(log, machine, grader, samples, until, steps)?;
+            let end = grade_through(alloc, log, machine, watched, strobed, samples, until, steps)?;
             Ok(end)
         }
     }
@@ -70,25 +78,28 @@ fn grade_to<L: Ledger>(
 
 /// Runs a faulty machine through a window. The answer is the grading's end, if it comes in the window.
 pub(crate) fn grade_window<L: Ledger>(
+    alloc: Global,
     log: &mut SlotLog,
     machine: &mut Machine<'_>,
-    grader: &mut Grader<'_>,
+    watched: &[WatchBit],
+    strobed: &mut Strobed,
     strobes: &WindowStrobes,
     steps: &mut Steps<L>,
 ) -> Result<Option<End>, NoMemory>
-    requires { CanGradeWindow strobes.now machine.old grader.old }
-    ensures passes { IfOk result (λ end. (of : CanGradeWindow strobes.now machine.old grader.old) →
-        PassesWindow of.design of.plan of.fault of.through (strobes_left of.plan strobes.now) end machine.new grader.new) }
+    requires { CanGradeWindow (map watched_bit watched.now) strobes.now machine.old (said_of strobed.old) }
+    ensures passes { IfOk result (λ end. (of : CanGradeWindow (map watched_bit watched.now) strobes.now machine.old (said_of strobed.old)) →
+        PassesWindow of.design of.plan of.fault of.through (strobes_left of.plan strobes.now) end machine.new (said_of strobed.new)) }
     ensures stays { IfOk result (λ _. StaysOn machine.old machine.new) }
-    ensures ticks { IfOk result (λ end. (of : CanGradeWindow strobes.now machine.old grader.old) →
+    ensures kind { OnOk result (keeps (said_of strobed.new) ≡ keeps (said_of strobed.old)) }
+    ensures ticks { IfOk result (λ end. (of : CanGradeWindow (map watched_bit watched.now) strobes.now machine.old (said_of strobed.old)) →
         RisesWithin (steps_taken of.design of.plan of.before of.fault None) (steps_taken of.design of.plan of.through of.fault end) steps.old steps.new) }
 {
     beside_laws::runs_stand();
-    beside_laws::gradings_end();
-    beside_laws::faults_go_on();
-    let end = grade_to(log, machine, grader, strobes, steps)?;
+    strobed_gradings_end();
+    strobed_faults_go_on();
+    let end = grade_to(alloc, log, machine, watched, strobed, strobes, steps)?;
     if end.is_some() {
         return Ok(end);
     }
-    Ok(end_behind(strobes.ending, grader))
+    Ok(end_behind(strobes.ending, strobed))
 }

@@ -6,17 +6,16 @@ ghost use Rattle.copy_room.specs.Rooms.{IsRoom};
 ghost use Rattle.window_strobes.specs.Strobes.{passed_behind};
 ghost use Rattle.copy_window.specs.Passing.{CanResume};
 ghost use Rattle.graded_steps.specs.Behind.{RisesWithin};
-ghost use Rattle.copy_window.specs.ShardFaults.{IsShardFault, steps_taken};
+ghost use Rattle.copy_window.specs.ShardFaults.{IsShardFault, SameFault, steps_taken};
 
 use crate::fault::ShardFault;
 use crate::settle::settle;
 use causal_monitor::SlotLog;
-use copy_room::enter;
+use copy_room::{Machine, enter};
+use fault_strobes::strobed_gradings_go_on;
 use good_trace::{Setup, TraceWindow};
-use machine::Machine;
 use std::alloc::Global;
 use std::sync::ledger::Ledger;
-use strobe_detect::Grader;
 use v_design::{Fault, World};
 use vf_base::{NoMemory, Steps};
 use window_grade::machines_stand;
@@ -58,13 +57,13 @@ pub fn resume_fault<N: World, L: Ledger>(
     requires room { IsRoom N.design room.old }
     requires fault { CanResume N.design N.plan (window.now.before + slot) (window.now.before + end) strobes.now (fault_of fault) own.old }
     ensures fault { OnOk result (IsShardFault N.design N.plan (window.now.before + end) (passed_behind strobes.now) own.new) }
-    ensures place { OnOk result (own.new.copy.fault ≡ own.old.copy.fault) }
+    ensures place { OnOk result (SameFault own.old own.new) }
     ensures room { OnOk result (IsRoom N.design room.new) }
     ensures ticks { OnOk result (RisesWithin (steps_taken N.design N.plan (window.now.before + slot) (fault_of fault) None)
         (steps_taken N.design N.plan (window.now.before + end) (fault_of fault) own.new.end) steps.old steps.new) }
 {
     beside_laws::faults_go_on();
-    beside_laws::gradings_go_on();
+    strobed_gradings_go_on();
     machines_stand();
     let _first = window.begins();
     let codes = setup.codes();
@@ -73,18 +72,6 @@ pub fn resume_fault<N: World, L: Ledger>(
     enter(
         alloc, room, log, setup, window, slot, &own.copy, fault, own.time,
     )?;
-    let mut grader = Grader::again(plan.watched.as_slice(), own.possible);
-    settle(
-        alloc,
-        setup,
-        window,
-        end,
-        strobes,
-        room,
-        &mut grader,
-        log,
-        own,
-        steps,
-    )?;
+    settle(alloc, setup, window, end, strobes, room, log, own, steps)?;
     Ok(())
 }

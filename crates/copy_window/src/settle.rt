@@ -5,23 +5,22 @@ ghost use Rattle.window_grade.specs.Running.{StaysOn};
 ghost use Rattle.window_strobes.specs.Strobes.{passed_behind};
 ghost use Rattle.copy_window.specs.Passing.{CanSettle, StaysOpen};
 ghost use Rattle.graded_steps.specs.Behind.{RisesWithin};
-ghost use Rattle.copy_window.specs.ShardFaults.{IsShardFault, steps_taken};
+ghost use Rattle.copy_window.specs.ShardFaults.{IsShardFault, SameFault, steps_taken};
 
 use crate::fault::ShardFault;
 use crate::grade::grade_window;
 use causal_monitor::SlotLog;
-use copy_room::leave;
+use copy_room::{Machine, leave};
+use fault_strobes::strobed_faults_go_on;
 use good_trace::{Setup, TraceWindow};
-use machine::Machine;
 use process_code::codes_are_one;
 use std::alloc::Global;
 use std::sync::ledger::Ledger;
-use strobe_detect::Grader;
 use v_design::World;
 use vf_base::{NoMemory, Steps};
 use window_strobes::WindowStrobes;
 
-/// Keeps of a fault whose grading goes on behind so many slots of a window what its faulty machine and its grader have there.
+/// Keeps of a fault whose grading goes on behind so many slots of a window what its faulty machine has there.
 fn keep_open<N: World>(
     alloc: Global,
     setup: &Setup<'_, N>,
@@ -29,23 +28,21 @@ fn keep_open<N: World>(
     end: u32,
     strobes: &WindowStrobes,
     machine: &Machine<'_>,
-    grader: &Grader<'_>,
     own: &mut ShardFault,
 ) -> Result<(), NoMemory>
     requires end { window.now.before + end ≤ window.now.through }
-    requires stays { StaysOpen N.design N.plan (window.now.before + end) (passed_behind strobes.now) machine.now grader.now own.old }
+    requires stays { StaysOpen N.design N.plan (window.now.before + end) (passed_behind strobes.now) machine.now own.old }
     ensures fault { OnOk result (IsShardFault N.design N.plan (window.now.before + end) (passed_behind strobes.now) own.new) }
-    ensures place { OnOk result (own.new.copy.fault ≡ own.old.copy.fault) }
+    ensures place { OnOk result (SameFault own.old own.new) }
     ensures end { OnOk result (own.new.end ≡ own.old.end) }
 {
     beside_laws::runs_go_on();
-    beside_laws::faults_go_on();
+    strobed_faults_go_on();
     codes_are_one();
     machine.stands_between();
     let codes = setup.codes();
     leave(alloc, &mut own.copy, machine, setup, window, end)?;
     own.time = machine.time();
-    own.possible = grader.possible();
     Ok(())
 }
 
@@ -57,24 +54,33 @@ pub(crate) fn settle<N: World, L: Ledger>(
     end: u32,
     strobes: &WindowStrobes,
     machine: &mut Machine<'_>,
-    grader: &mut Grader<'_>,
     log: &mut SlotLog,
     own: &mut ShardFault,
     steps: &mut Steps<L>,
 ) -> Result<(), NoMemory>
     requires end { window.now.before + end ≤ window.now.through }
-    requires fault { (before : ℕ) × CanSettle N.design N.plan before (window.now.before + end) strobes.now machine.old grader.old own.old }
+    requires fault { (before : ℕ) × CanSettle N.design N.plan before (window.now.before + end) strobes.now machine.old own.old }
     ensures fault { OnOk result (IsShardFault N.design N.plan (window.now.before + end) (passed_behind strobes.now) own.new) }
-    ensures place { OnOk result (own.new.copy.fault ≡ own.old.copy.fault) }
+    ensures place { OnOk result (SameFault own.old own.new) }
     ensures stays { OnOk result (StaysOn machine.old machine.new) }
-    ensures ticks { OnOk result ((before : ℕ) (of : CanSettle N.design N.plan before (window.now.before + end) strobes.now machine.old grader.old own.old) →
+    ensures ticks { OnOk result ((before : ℕ) (of : CanSettle N.design N.plan before (window.now.before + end) strobes.now machine.old own.old) →
         RisesWithin (steps_taken N.design N.plan before of.fault None) (steps_taken N.design N.plan (window.now.before + end) of.fault own.new.end) steps.old steps.new) }
 {
-    let found = grade_window(log, machine, grader, strobes, steps)?;
+    let plan = setup.plan();
+    let watched = plan.watched.as_slice();
+    let found = grade_window(
+        alloc,
+        log,
+        machine,
+        watched,
+        &mut own.strobed,
+        strobes,
+        steps,
+    )?;
     if found.is_some() {
         own.end = found;
         return Ok(());
     }
-    keep_open(alloc, setup, window, end, strobes, machine, grader, own)?;
+    keep_open(alloc, setup, window, end, strobes, machine, own)?;
     Ok(())
 }

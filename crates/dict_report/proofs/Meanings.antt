@@ -4,7 +4,7 @@ use Rattle.std.specs.Prelude.{Option, Some, None, Result, Ok, Err, is_some}
 use Rattle.std.specs.List.{AllZip}
 use Rattle.v_design.specs.Designs.{FlatDesign, StuckAt, TestPlan}
 use Rattle.v_design.specs.Grades.{Sample, Stop, FullGrade, full_grade}
-use Rattle.fault_grade.specs.Results.{LoopsAt}
+use Rattle.vf_dict.specs.fault_grade.Results.{LoopsAt}
 use Rattle.kept_samples.specs.Kept.{samples_kept, good_seen, good_stop, good_samples, Keeps}
 use Rattle.kept_samples.specs.declared.kept.Kept.{Kept}
 use Rattle.dict_text.specs.Texts.{Entry, entry_of, dict_text, diagnose_text}

@@ -4,7 +4,7 @@ use Rattle.std.specs.Prelude.{◌≡◌, ℕ, List, map, Some, Result, Ok, Err, 
 use Rattle.std.specs.List.{AllZip}
 use Rattle.v_design.specs.Designs.{FlatDesign, TestPlan}
 use Rattle.v_design.specs.Grades.{Sample, FullGrade, full_grade}
-use Rattle.fault_grade.specs.Results.{LoopsAt}
+use Rattle.vf_dict.specs.fault_grade.Results.{LoopsAt}
 use Rattle.kept_samples.specs.Kept.{good_seen, good_stop, good_samples}
 use Rattle.dict_text.specs.Texts.{Entry, entry_of, dict_text, diagnose_text}
 use Rattle.pick_laws.specs.Hard.{hard_lists}

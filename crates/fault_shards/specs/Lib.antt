@@ -3,3 +3,4 @@ pub mod Cuts
 pub mod Shards
 pub mod Found
 pub mod FoundLaws
+pub mod CutLaws

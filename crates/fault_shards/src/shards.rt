@@ -26,7 +26,7 @@ impl Shards {
     ghost use Rattle.order_laws.specs.Reports.{AreGrades};
     ghost use Rattle.v_design.specs.Findings.{grades_of, AreInOrder};
     ghost use Rattle.fault_shards.specs.Cuts.{shard, shard_count};
-    ghost use Rattle.fault_shards.specs.Shards.{representatives_of, fault_count, AreShardsOf};
+    ghost use Rattle.fault_shards.specs.Shards.{representatives_of, standing_of, fault_count, AreShardsOf};
     ghost use Rattle.fault_shards.specs.Found.{AreFound, HasEnds};
 
     /// How many shards there are.
@@ -45,6 +45,14 @@ impl Shards {
         let start = 32 * number as usize;
         let end = faults.len().min(start + 32);
         &faults[start..end]
+    }
+
+    /// The fault that stands for a listed one.
+    pub fn representative(&self, fault: FaultId) -> FaultId
+        requires { fault_number fault < fault_count self.now }
+        ensures { fault_number result ≡ slice_index (standing_of self.now) (fault_number fault) }
+    {
+        self.standing[fault.0 as usize]
     }
 
     /// How a grading ended for each fault that was found, by the fault's number.

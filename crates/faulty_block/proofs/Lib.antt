@@ -1,4 +1,10 @@
 pub mod Rests
+pub mod Lanes
 pub mod Ran
 pub mod PutBack
 pub mod Differs
+pub use Rattle.block_compare.proofs as block_compare
+pub use Rattle.block_compare.proofs.lockstep_room as lockstep_room
+pub use Rattle.block_compare.proofs.lockstep_exchange as lockstep_exchange
+pub use Rattle.block_compare.proofs.copy_skip as copy_skip
+pub use Rattle.block_compare.proofs.block_events as block_events

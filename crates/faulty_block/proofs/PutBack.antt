@@ -6,18 +6,18 @@ use Rattle.vf_base.specs.Lists.{has}
 use Rattle.vf_base.specs.declared.ids.ObjectId.{ObjectId}
 use Rattle.v_design.specs.Assignments.{value_at}
 use Rattle.v_design.specs.Designs.{Machine}
-use Rattle.v_design.specs.States.{NodeState, ProcessState, process_at, node_at, found_or}
+use Rattle.v_design.specs.States.{NodeState, process_at, node_at, found_or}
 use Rattle.process_table.specs.Puts.{MayStand}
 use Rattle.run_ends.specs.RunEnds.{AreCodesOf}
-use Rattle.block_events.specs.declared.runner.Runner.{Runner}
-use Rattle.block_events.specs.Runners.{machine_of, state_of}
+use Rattle.block_compare.specs.block_events.declared.runner.Runner.{Runner}
+use Rattle.block_compare.specs.block_events.Runners.{machine_of, state_of}
 use Rattle.block_told.specs.declared.told.BlockTold.{BlockTold}
-use Rattle.lockstep_copy.specs.declared.own.LockstepCopy.{LockstepCopy}
-use Rattle.lockstep_exchange.specs.Exchange.{AreWide, IsButFor, MayTakeOut}
-use Rattle.lockstep_room.specs.Rooms.{IsBrought, MayStandSo}
-use Rattle.moment_shown.specs.declared.shown.ShownBlock.{ShownBlock}
-use Rattle.moment_shown.specs.declared.shown.ShownMoment.{ShownMoment}
-use Rattle.moment_shown.specs.Shown.{Shows}
+use Rattle.block_compare.specs.lockstep_copy.declared.own.LockstepCopy.{LockstepCopy}
+use Rattle.block_compare.specs.lockstep_exchange.Exchange.{AreWide, IsButFor, MayTakeOut}
+use Rattle.block_compare.specs.lockstep_room.Rooms.{IsBrought, MayStandSo}
+use Rattle.block_compare.specs.moment_shown.declared.shown.ShownBlock.{ShownBlock}
+use Rattle.block_compare.specs.moment_shown.declared.shown.ShownMoment.{ShownMoment}
+use Rattle.block_compare.specs.moment_shown.Shown.{Shows}
 use Rattle.block_compare.specs.Comparing.{parts_both}
 use Rattle.block_compare.proofs.Same.{on-bool}
 use Rattle.faulty_block.specs.Back.{MayPutBack}
@@ -97,13 +97,9 @@ module _ (runner : Runner) (before : ShownMoment) (block : ShownBlock) (told : B
             of.back.values object
             (either (has (map object_number told.changed.items) object) (has (map object_number block.changed.now) object)
             (sym (ap (λ (l : List ObjectId). has (map object_number l) object) changes_are) ∙ theirs_none) goods_none) none);
-        processes = λ process none.
-            on-bool ((parts_both block told).processes process) (λ yes. brought process true yes) (λ no. brought process false no ∙ of.back.processes process no none);
+        processes = λ process.
+            on-bool ((parts_both block told).processes process) (λ yes. brought process true yes) (λ no. brought process false no ∙ of.back.processes process no);
         objects_there = of.back.objects_there;
-        does = λ process later is.
-            on-bool ((parts_both block told).processes process) (λ yes. ap (λ (p : ProcessState). p.activity) (brought process true yes))
-            (λ no. ap (λ (p : ProcessState). p.activity) (brought process false no) ∙ of.back.does process no);
-        later = λ process later is. record { there = of.back.processes_there process later is; due = (of.may process).after.1 };
       }
 
       -- which may be taken out then

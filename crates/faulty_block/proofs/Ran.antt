@@ -1,50 +1,146 @@
 -- The block that a faulty machine took.
-use Rattle.std.proofs.Common.{◌≡◌, ℕ, ◌+◌, ◌≤◌, List, ap, sym, subst, ◌∙◌, arith}
+use Rattle.std.proofs.Common.{◌≡◌, ℕ, ◌+◌, ◌<◌, ◌≤◌, ◌^◌, Bool, true, false, List, cond, length, ap, sym, subst, ◌∙◌, refl, arith}
 use Rattle.std.specs.Prelude.{Option, Some, None, IfSome, IsSome, MatchOption, is_some, sum_by}
 use Rattle.std.specs.Option.{option_map}
 use Rattle.vf_base.specs.Base.{process_number}
+use Rattle.vf_base.specs.Lists.{AllHold}
 use Rattle.vf_base.specs.declared.ids.ProcId.{ProcId}
 use Rattle.v_design.specs.Designs.{Machine, StuckAt, faulty_machine}
-use Rattle.v_design.specs.Runs.{happened}
-use Rattle.v_design.specs.States.{State, Event}
+use Rattle.v_design.specs.Runs.{happened, work_of}
+use Rattle.v_design.specs.States.{State, ProcessState, Event, process_at}
+use Rattle.v_design.specs.Writers.{process_objects}
 use Rattle.machine_laws.specs.SlotLoop.{NoNodeWorks, first_lane, steps_of}
 use Rattle.machine_events.specs.Steps.{event_steps}
 use Rattle.copy_laws.specs.Beside.{AreFirst}
-use Rattle.block_events.specs.declared.runner.Runner.{Runner}
-use Rattle.block_events.specs.Runners.{machine_of, state_of}
+use Rattle.race_laws.specs.Writes.{WritesAreOf}
+use Rattle.lockstep_laws.specs.Lockstep.{LockstepIsBeside, StandBeside}
+use Rattle.block_compare.specs.block_events.declared.runner.Runner.{Runner}
+use Rattle.block_compare.specs.block_events.Runners.{machine_of, state_of}
 use Rattle.block_runner.specs.Ends.{EndsSo, GoesOn}
 use Rattle.block_runner.specs.declared.blocks.BlockEnd.{BlockEnd}
 use Rattle.block_runner.specs.declared.blocks.BlockEnd.TheVariants.{Ran}
 use Rattle.block_told.specs.declared.told.BlockTold.{BlockTold}
 use Rattle.block_told.specs.Blocks.{AreBlock}
-use Rattle.block_told.specs.Tells.{TellsBlock}
-use Rattle.lockstep_copy.specs.declared.own.LockstepCopy.{LockstepCopy}
-use Rattle.lockstep_exchange.specs.Exchange.{MayPutIn}
+use Rattle.block_told.specs.Tells.{TellsBlock, parts_told}
+use Rattle.unseen_writes.specs.Unseen.{AreAlike, IsAlike, StepsLane, WritesAreUnseen}
+use Rattle.block_compare.specs.lockstep_copy.Kept.{kept_by}
+use Rattle.block_compare.specs.lockstep_copy.declared.own.LockstepCopy.{LockstepCopy}
+use Rattle.block_compare.specs.lockstep_exchange.Exchange.{ArePutFor, MayPutIn}
+use Rattle.block_compare.specs.lockstep_slots.Kept.{kept_within}
+use Rattle.block_compare.specs.moment_shown.declared.shown.ShownBlock.{ShownBlock}
 use Rattle.block_runner.proofs.Counted.{lane-steps, process-steps}
-use Rattle.faulty_block.specs.Runs.{MayRun, RanBlock, StepsWithin}
+use Rattle.faulty_block.specs.Runs.{MayRun, RanBlock, StepsWithin, acts_in}
+use Rattle.faulty_block.proofs.Lanes.{steps-lane}
 
-pub ran-some : (runner begins new : Runner) (own : LockstepCopy) (fault : StuckAt) (most : ℕ) (end : BlockEnd) (told : BlockTold) (found : Option ℕ) (ticked : ℕ) →
-    machine_of begins ≡ faulty_machine (machine_of runner).design fault →
-    ((of : MayPutIn (machine_of runner).design own (state_of runner)) → state_of begins ≡ of.faulty) → (goes : GoesOn (machine_of begins) (state_of begins) most end new told) →
-    event_steps goes.events ≡ ticked → IfSome found (λ taken. end ≡ Ran) → IfSome found (λ taken. told.steps ≡ taken) →
-    IfSome found (λ taken. (of : MayRun own runner) → RanBlock (faulty_machine (machine_of runner).design fault) of.put.faulty taken ticked new told)
-ran-some runner begins new own fault most end told None ticked machine states goes count ran steps = tt
-ran-some runner begins new own fault most end told (Some taken) ticked machine states goes count ran steps = λ of.
-    let state = states of.put in
-    record {
+-- The state that is put in
+
+module _ (side : LockstepIsBeside) (law : WritesAreUnseen) (runner begins : Runner) (own : LockstepCopy) (block : ShownBlock) (of : MayRun (acts_in block) own runner)
+    (put : ArePutFor (acts_in block) (state_of runner) of.put.faulty (state_of begins)) where
+  stand : StandBeside (kept_within (kept_by own) (state_of runner)) (state_of runner) of.put.faulty
+  stand = side (kept_within (kept_by own) (state_of runner)) (state_of runner) of.put.faulty of.put.makes.lockstep
+
+  -- it is the faulty state but for what processes have yet to write
+  pub alike : AreAlike (acts_in block) of.put.faulty (state_of begins)
+  alike = record {
+    time = ap (λ (s : State). s.time) put.rest;
+    values = ap (λ (s : State). s.values) put.rest;
+    nodes = ap (λ (s : State). s.nodes) put.rest;
+    count = put.count ∙ sym of.put.makes.lockstep.within.process_count;
+    each = λ process. one process (acts_in block process) refl;
+  }
+    where
+      one : (process : ℕ) (acts : Bool) → acts_in block process ≡ acts → IsAlike (acts_in block process) (process_at of.put.faulty process) (process_at (state_of begins) process)
+      one process true acting =
+          let is : process_at (state_of begins) process ≡ process_at of.put.faulty process =
+          put.processes process ∙ ap (λ (b : Bool). cond b (process_at of.put.faulty process) (process_at (state_of runner) process)) acting in
+          record { activity = ap (λ (p : ProcessState). p.activity) is; lane = ap (λ (p : ProcessState). length p.lane) is; kept = λ e. is }
+      one process false none =
+          let is : process_at (state_of begins) process ≡ process_at (state_of runner) process =
+          put.processes process ∙ ap (λ (b : Bool). cond b (process_at of.put.faulty process) (process_at (state_of runner) process)) none in
+          let writes = stand.processes process in
+          record {
+            activity = ap (λ (p : ProcessState). p.activity) is ∙ sym writes.activity;
+            lane = ap (λ (p : ProcessState). length p.lane) is ∙ sym writes.lane;
+            kept = λ acting. let wrong : true ≡ false = sym acting ∙ none in cc;
+          }
+
+  lane-same : first_lane (state_of begins) ≡ first_lane (state_of runner)
+  lane-same = law.lanes (state_of runner) (state_of begins) put.count (λ process. (alike.each process).lane ∙ (stand.processes process).lane)
+
+  pub put-rests : NoNodeWorks (state_of begins)
+  put-rests = ap (work_of 0) alike.nodes ∙ of.rests
+
+  pub put-time : (state_of begins).time ≤ 2 ^ 63
+  put-time = subst (λ (t : ℕ). t ≤ 2 ^ 63) (sym alike.time) of.time
+
+  -- what its processes are still to write is of the design, whose ever it is
+  pub put-writes : WritesAreOf (machine_of runner).design (state_of begins)
+  put-writes = record { objects = λ process. one process (acts_in block process) refl }
+    where
+      one : (process : ℕ) (acts : Bool) → acts_in block process ≡ acts →
+          AllHold (λ object. object < length (machine_of runner).design.objects) (process_objects (process_at (state_of begins) process))
+      one process true acting =
+          subst (λ (p : ProcessState). AllHold (λ object. object < length (machine_of runner).design.objects) (process_objects p)) (sym (put.processes process ∙ ap (λ (b : Bool). cond b (process_at of.put.faulty process) (process_at (state_of runner) process)) acting)) (of.writes.objects process)
+      one process false none =
+          subst (λ (p : ProcessState). AllHold (λ object. object < length (machine_of runner).design.objects) (process_objects p)) (sym (put.processes process ∙ ap (λ (b : Bool). cond b (process_at of.put.faulty process) (process_at (state_of runner) process)) none)) (of.good_writes.objects process)
+
+  -- the lanes that step are those of processes that act
+  steps-acting : (events : List Event) → (IsSome (first_lane (state_of begins)) → sum_by steps_of events ≡ 1) → AreFirst (machine_of begins) (state_of begins) events →
+      AllHold (StepsLane (acts_in block)) events
+  steps-acting events one first =
+      steps-lane (machine_of begins) (acts_in block) (state_of begins) events put-rests (λ process is. of.lane process (sym lane-same ∙ is)) one first
+
+  module _ (new : Runner) (fault : StuckAt) (most : ℕ) (end : BlockEnd) (told : BlockTold) (ticked : ℕ) (machine : machine_of begins ≡ faulty_machine (machine_of runner).design fault)
+      (goes : GoesOn (machine_of begins) (state_of begins) most end new told) (one : IsSome (first_lane (state_of begins)) → told.steps ≡ 1) (counted : event_steps goes.events ≡ ticked) where
+    may : AllHold (StepsLane (acts_in block)) goes.events
+    may = steps-acting goes.events (λ some. sym goes.tells.count ∙ one some) goes.in_order
+
+    -- the block that it took is one of the faulty machine
+    pub ran-block : (taken : ℕ) → end ≡ Ran → told.steps ≡ taken →
+        RanBlock (faulty_machine (machine_of runner).design fault) (acts_in block) of.put.faulty (state_of runner) taken ticked new told
+    ran-block taken ran steps =
+        let next : AreAlike (acts_in block) (happened (machine_of begins) of.put.faulty goes.events) (happened (machine_of begins) (state_of begins) goes.events) =
+        (law.events (machine_of begins) (acts_in block) of.put.faulty (state_of begins) goes.events alike may goes.in_order).1 in
+        let whole : AreBlock (machine_of begins) (state_of begins) goes.events = subst (EndsSo (machine_of begins) (state_of begins) most goes.events) ran goes.ends in
+        subst (λ (m : Machine). RanBlock m (acts_in block) of.put.faulty (state_of runner) taken ticked new told) machine
+        (record {
+          events = goes.events;
+          block = law.block (machine_of begins) (acts_in block) of.put.faulty (state_of begins) goes.events alike may whole;
+          whole = goes.whole;
+          machine_is = goes.machine_is;
+          rest =
+              goes.state_is
+              ∙ (λ i. record { time = next.time i; values = next.values i; nodes = next.nodes i; processes = sym (ap (λ (s : State). s.processes) goes.state_is) i });
+          count = ap (λ (s : State). length s.processes) goes.state_is ∙ next.count;
+          processes = λ process acts. ap (λ (s : State). process_at s process) goes.state_is ∙ (next.each process).kept acts;
+          others = λ process acts none.
+              ap (λ (s : State). process_at s process) goes.state_is ∙ goes.tells.changes.processes process none ∙ put.processes process
+              ∙ ap (λ (b : Bool). cond b (process_at of.put.faulty process) (process_at (state_of runner) process)) acts;
+          tells = law.tells (machine_of begins) (acts_in block) of.put.faulty (state_of begins) goes.events told alike may goes.tells;
+          steps_are = steps;
+          ticked_are = counted;
+        })
+
+    -- also where it was given up
+    pub ran-within : told.steps ≤ most + 1 → StepsWithin (faulty_machine (machine_of runner).design fault) of.put.faulty most ticked
+    ran-within few = record {
       events = goes.events;
-      block =
-          subst (λ (m : Machine). AreBlock m of.put.faulty goes.events) machine
-          (subst (λ (s : State). AreBlock (machine_of begins) s goes.events) state (subst (EndsSo (machine_of begins) (state_of begins) most goes.events) ran goes.ends));
-      whole = goes.whole;
-      machine_is = goes.machine_is ∙ machine;
-      state_is = goes.state_is ∙ (λ i. happened (machine i) (state i) goes.events);
-      tells =
-          subst (λ (m : Machine). TellsBlock m of.put.faulty goes.events told) machine
-          (subst (λ (s : State). TellsBlock (machine_of begins) s goes.events told) state goes.tells);
-      steps_are = steps;
-      ticked_are = count;
+      in_order =
+          subst (λ (m : Machine). AreFirst m of.put.faulty goes.events) machine
+          (law.events (machine_of begins) (acts_in block) of.put.faulty (state_of begins) goes.events alike may goes.in_order).0;
+      few = (let count : told.steps ≡ sum_by steps_of goes.events = goes.tells.count in omega (arith, count, few));
+      ticked_are = counted;
     }
+
+-- where it was run to its end
+pub ran-some : (runner new : Runner) (own : LockstepCopy) (block : ShownBlock) (fault : StuckAt) (end : BlockEnd) (told : BlockTold) (found : Option ℕ) (ticked : ℕ) →
+    ((of : MayRun (acts_in block) own runner) (taken : ℕ) → end ≡ Ran → told.steps ≡ taken →
+    RanBlock (faulty_machine (machine_of runner).design fault) (acts_in block) of.put.faulty (state_of runner) taken ticked new told) → IfSome found (λ taken. end ≡ Ran) →
+    IfSome found (λ taken. told.steps ≡ taken) →
+    IfSome found (λ taken.
+    (of : MayRun (acts_in block) own runner) → RanBlock (faulty_machine (machine_of runner).design fault) (acts_in block) of.put.faulty (state_of runner) taken ticked new told)
+ran-some runner new own block fault end told None ticked block-is ran steps = tt
+ran-some runner new own block fault end told (Some taken) ticked block-is ran steps = λ of. block-is of taken ran steps
 
 -- so many of its steps are process steps
 pub process-counted : (machine : Machine) (state : State) (most : ℕ) (end : BlockEnd) (runner : Runner) (told : BlockTold) (lane : Option ProcId) (ticked : ℕ) → NoNodeWorks state →
@@ -53,17 +149,3 @@ pub process-counted : (machine : Machine) (state : State) (most : ℕ) (end : Bl
 process-counted machine state most end runner told None ticked rests is one by goes = process-steps machine state goes.events (sym is) goes.in_order ∙ sym goes.tells.count ∙ sym by
 process-counted machine state most end runner told (Some process) ticked rests is one by goes =
     lane-steps machine state (process_number process) goes.events rests (sym is) goes.in_order (sym goes.tells.count ∙ one (ap is_some (sym is))) ∙ sym by
-
--- also where the block was given up
-pub ran-within : (runner begins new : Runner) (own : LockstepCopy) (fault : StuckAt) (most : ℕ) (end : BlockEnd) (told : BlockTold) (ticked : ℕ) →
-    machine_of begins ≡ faulty_machine (machine_of runner).design fault →
-    ((of : MayPutIn (machine_of runner).design own (state_of runner)) → state_of begins ≡ of.faulty) → (goes : GoesOn (machine_of begins) (state_of begins) most end new told) →
-    event_steps goes.events ≡ ticked → told.steps ≤ most + 1 → (of : MayRun own runner) → StepsWithin (faulty_machine (machine_of runner).design fault) of.put.faulty most ticked
-ran-within runner begins new own fault most end told ticked machine states goes counted few of = record {
-  events = goes.events;
-  in_order =
-      subst (λ (m : Machine). AreFirst m of.put.faulty goes.events) machine
-      (subst (λ (s : State). AreFirst (machine_of begins) s goes.events) (states of.put) goes.in_order);
-  few = (let count : told.steps ≡ sum_by steps_of goes.events = goes.tells.count in omega (arith, count, few));
-  ticked_are = counted;
-}

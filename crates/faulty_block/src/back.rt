@@ -2,20 +2,16 @@
 
 ghost use Rattle.std.specs.Prelude.{◌≡◌, OnOk};
 ghost use Rattle.v_design.specs.Designs.{good_machine};
-ghost use Rattle.block_events.specs.Runners.{IsWhole, machine_of, state_of};
-ghost use Rattle.lockstep_room.specs.Rooms.{AreCounts};
+ghost use Rattle.block_compare.specs.block_events.Runners.{IsWhole, machine_of, state_of};
+ghost use Rattle.block_compare.specs.lockstep_room.Rooms.{AreCounts};
 ghost use Rattle.faulty_block.specs.Back.{MayPutBack};
 
-use block_events::Runner;
+use block_compare::{Counts, LockstepCopy, Runner, ShownBlock, ShownMoment, bring, take_out};
 use block_told::BlockTold;
-use lockstep_copy::LockstepCopy;
-use lockstep_exchange::take_out;
-use lockstep_room::{Counts, bring};
-use moment_shown::{ShownBlock, ShownMoment};
 use vf_base::NoMemory;
 
 /// A runner that is a faulty machine behind a block of its own, which was compared with the good machine's, becomes the good machine before the block, in the state that is
-/// shown: what either block changed, and what is kept behind them, comes to be as it was in the good machine.
+/// shown: what either block changed, and the objects of which a value is kept behind them, come to be as they were in the good machine.
 ///
 /// # Errors
 ///
@@ -44,6 +40,6 @@ pub fn put_back(
         block.lane,
     )?;
     bring(runner, before, counts, block.changed, &[], None)?;
-    take_out(runner, before, own)?;
+    take_out(runner, before, own);
     Ok(())
 }

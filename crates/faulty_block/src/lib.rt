@@ -1,8 +1,9 @@
 //! One block of a faulty machine in lockstep: it is run, and put back (blocks and slots by IEEE 1364-2001, clause 5).
 //!
-//! A runner in the good machine's state becomes a faulty machine with what is kept of it, and runs its next block: `run_faulty`. Behind the block, which was compared with the good
-//! machine's, `put_back` lets what either block changed, and what is kept behind them, be as it was in the good machine before the block: so many faults may take
-//! their blocks one after the other. Main contract: the block that was run is the faulty machine's next one, and behind `put_back` the runner is the good machine, in the
+//! A runner in the good machine's state becomes a faulty machine with what is kept of it, and runs its next block: `run_faulty`. Of the updates that are kept it has those of the
+//! processes alone that act in the good machine's block: no event sees the others, and the block is the faulty machine's all the same (`unseen_writes`). Behind the block, which was
+//! compared with the good machine's, `put_back` lets what either block changed, and the values that are kept behind them, be as they were in the good machine before the block: so many
+//! faults may take their blocks one after the other. Main contract: the block that was run is the faulty machine's next one, and behind `put_back` the runner is the good machine, in the
 //! state before the block.
 #![tactic(auto)]
 
@@ -10,4 +11,8 @@ mod back;
 mod run;
 
 pub use back::put_back;
+pub use block_compare::{
+    Counts, LockstepCopy, Runner, ShownBlock, ShownMoment, begin_slot, compare_block,
+    comparisons_tell, follow, kept_ends, lanes_tell_turns, stand, turn_writes,
+};
 pub use run::{FaultyRun, run_faulty};

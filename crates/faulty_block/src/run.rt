@@ -4,15 +4,13 @@ ghost use Rattle.std.specs.Prelude.{◌≡◌, ◌≤◌, IfOk, IfSome, MatchOpt
 ghost use Rattle.v_design.specs.Designs.{faulty_machine};
 ghost use Rattle.v_design.specs.Plain.{fault_of};
 ghost use Rattle.machine_events.specs.Steps.{raised_by};
-ghost use Rattle.block_events.specs.Runners.{IsWhole, machine_of};
+ghost use Rattle.block_compare.specs.block_events.Runners.{IsWhole, machine_of, state_of};
 ghost use Rattle.block_runner.specs.declared.blocks.BlockEnd.TheVariants.{Ran};
-ghost use Rattle.faulty_block.specs.Runs.{MayRun, RanBlock, StepsWithin};
+ghost use Rattle.faulty_block.specs.Runs.{MayRun, RanBlock, StepsWithin, acts_in};
 
-use block_events::Runner;
+use block_compare::{LockstepCopy, Runner, ShownBlock, put_in};
 use block_runner::{BlockEnd, run_block};
 use block_told::BlockTold;
-use lockstep_copy::LockstepCopy;
-use lockstep_exchange::put_in;
 use std::sync::ledger::Ledger;
 use v_design::Fault;
 use vf_base::{NoMemory, ProcId, Steps};
@@ -50,8 +48,9 @@ fn process_steps(lane: Option<ProcId>, told: &BlockTold) -> u64
     }
 }
 
-/// A runner in the good machine's state becomes the faulty machine of a fault with what is kept of it, and runs its next block, which is given up where it takes more process and
-/// lane steps than so many; `told` tells it. `steps` ticks once for each process step that was taken, whether the block was run to its end or not.
+/// A runner in the good machine's state becomes the faulty machine of a fault with what is kept of it, and runs its next block, beside the good machine's block that is shown. It is given up
+/// where it takes more process and lane steps than so many; `told` tells it. Of the updates that are kept those alone are put in that the good block's processes have: no event sees the
+/// others. `steps` ticks once for each process step that was taken, whether the block was run to its end or not.
 ///
 /// # Errors
 ///
@@ -61,21 +60,24 @@ pub fn run_faulty<L: Ledger>(
     told: &mut BlockTold,
     own: &LockstepCopy,
     fault: Fault,
+    block: &ShownBlock,
     most: u32,
     steps: &mut Steps<L>,
 ) -> Result<FaultyRun, NoMemory>
     requires whole { IsWhole runner.old }
-    requires run { MayRun own.now runner.old }
+    requires run { MayRun (acts_in block.now) own.now runner.old }
     ensures whole { OnOk result (IsWhole runner.new) }
     ensures machine { OnOk result (machine_of runner.new ≡ faulty_machine (machine_of runner.old).design (fault_of fault)) }
     ensures few { IfOk result (λ ran. IfSome ran.taken (λ taken. taken ≤ most)) }
-    ensures ran { IfOk result (λ ran. IfSome ran.taken (λ taken. (of : MayRun own.now runner.old) →
-        RanBlock (faulty_machine (machine_of runner.old).design (fault_of fault)) of.put.faulty taken ran.ticked runner.new told.new)) }
+    ensures ran { IfOk result (λ ran. IfSome ran.taken (λ taken. (of : MayRun (acts_in block.now) own.now runner.old) →
+        RanBlock (faulty_machine (machine_of runner.old).design (fault_of fault)) (acts_in block.now) of.put.faulty (state_of runner.old) taken ran.ticked runner.new told.new)) }
     ensures ticks { IfOk result (λ ran. steps.new ≡ raised_by ran.ticked steps.old) }
-    ensures most { IfOk result (λ ran. (of : MayRun own.now runner.old) →
+    ensures most { IfOk result (λ ran. (of : MayRun (acts_in block.now) own.now runner.old) →
         StepsWithin (faulty_machine (machine_of runner.old).design (fault_of fault)) of.put.faulty most ran.ticked) }
 {
-    put_in(runner, own, fault)?;
+    lockstep_laws::lockstep_is_beside();
+    unseen_writes::writes_are_unseen();
+    put_in(runner, own, fault, block.acted, block.lane)?;
     let lane = runner.first_lane();
     let end = run_block(runner, told, most, steps)?;
     Ok(FaultyRun {

@@ -19,8 +19,8 @@ use Rattle.trace_window.specs.Writes.{Written, written_of, writes_from}
 use Rattle.trace_window.specs.declared.change.Change.{Change}
 use Rattle.window_runs.specs.RunsByProcess.{run_process}
 use Rattle.moment_slices.specs.Within.{comes_within}
-use Rattle.window_wakes.specs.declared.wake.Wake.{Wake}
-use Rattle.window_wakes.specs.Wakes.{WakeTold, wake_of}
+use Rattle.passed_blocks.specs.window_wakes.declared.wake.Wake.{Wake}
+use Rattle.passed_blocks.specs.window_wakes.Wakes.{WakeTold, wake_of}
 use Rattle.moment_parts.specs.Lanes.{lane_left, lanes_left}
 use Rattle.moment_parts.specs.declared.lane.Lane.{Lane}
 use Rattle.moment_parts.specs.Within.{written_within}
@@ -30,9 +30,9 @@ use Rattle.moment_parts.specs.declared.kept.Standing.{Standing}
 use Rattle.moment_parts.specs.declared.kept.Passed.{Passed}
 use Rattle.good_moment.specs.declared.place.MomentPlace.{MomentPlace}
 use Rattle.good_moment.specs.Kept.{kept_of}
-use Rattle.moment_laws.specs.Places.{IsInWindow}
-use Rattle.moment_laws.specs.Shown.{MomentKept}
-use Rattle.moment_laws.specs.Steps.{untold, slot_enders, HasRuns}
+use Rattle.passed_blocks.specs.moment_laws.Places.{IsInWindow}
+use Rattle.passed_blocks.specs.moment_laws.Shown.{MomentKept}
+use Rattle.passed_blocks.specs.moment_laws.Steps.{untold, slot_enders, HasRuns}
 use Rattle.between_slots.specs.Between.{window_phases}
 
 -- Views

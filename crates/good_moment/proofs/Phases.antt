@@ -2,10 +2,10 @@
 use Rattle.std.proofs.Common.{◌≡◌, ℕ, ◌+◌, ◌<◌, length, ap, arith}
 use Rattle.v_design.specs.Designs.{FlatDesign, TestPlan}
 use Rattle.between_slots.specs.Between.{window_phases}
-use Rattle.moment_laws.specs.Passing.{HasTurn}
-use Rattle.moment_laws.specs.Places.{IsInWindow}
-use Rattle.moment_laws.specs.Shown.{MomentKept}
-use Rattle.moment_laws.specs.Turns.{TurnsAreShown}
+use Rattle.passed_blocks.specs.moment_laws.Passing.{HasTurn}
+use Rattle.passed_blocks.specs.moment_laws.Places.{IsInWindow}
+use Rattle.passed_blocks.specs.moment_laws.Shown.{MomentKept}
+use Rattle.passed_blocks.specs.moment_laws.Turns.{TurnsAreShown}
 
 pub phase-fits : TurnsAreShown → (design : FlatDesign) (plan : TestPlan) (before through count : ℕ) (kept old : MomentKept) → kept ≡ old → IsInWindow before through old → HasTurn design plan old →
     count ≡ length (window_phases design plan before through) → kept.phase + 1 < count

@@ -10,8 +10,8 @@ use Rattle.process_code.specs.Points.{Point}
 use Rattle.process_code.specs.declared.state.ProcState.{ProcState}
 use Rattle.process_code.specs.declared.state.Stage.TheVariants as stages
 use Rattle.moment_parts.specs.Within.{IsReadied, IsWokenIf, AreWoken}
-use Rattle.window_wakes.specs.declared.wake.Wake.{Wake}
-use Rattle.shown_blocks.proofs.Told.{has-append}
+use Rattle.passed_blocks.specs.window_wakes.declared.wake.Wake.{Wake}
+use Rattle.passed_blocks.proofs.shown_blocks.Told.{has-append}
 
 some-is : (a b : ProcState) → Some a ≡ Some b → a ≡ b
 some-is a b e = cc

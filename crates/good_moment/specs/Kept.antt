@@ -12,7 +12,7 @@ use Rattle.moment_parts.specs.Lanes.{lanes_left, later_lists}
 use Rattle.moment_parts.specs.declared.lane.Lane.{Lane}
 use Rattle.moment_parts.specs.declared.kept.Standing.{Standing}
 use Rattle.moment_parts.specs.declared.kept.Passed.{Passed}
-use Rattle.moment_laws.specs.Shown.{MomentKept}
+use Rattle.passed_blocks.specs.moment_laws.Shown.{MomentKept}
 use Rattle.good_moment.specs.declared.place.MomentPlace.{MomentPlace}
 
 -- as the code's type says

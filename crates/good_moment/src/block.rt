@@ -3,7 +3,7 @@
 ghost use Rattle.std.specs.Prelude.{◌≡◌, ◌+◌, ◌<◌, ◌≤◌, true, get_or, length, min};
 ghost use Rattle.vf_base.specs.Lists.{has};
 ghost use Rattle.between_slots.specs.Between.{window_phases};
-ghost use Rattle.shown_blocks.specs.Ahead.{IsAhead};
+ghost use Rattle.passed_blocks.specs.shown_blocks.Ahead.{IsAhead};
 
 use causal_monitor::Actor;
 use v_design::World;

@@ -1,8 +1,8 @@
 // To the beginning of a slot of a window.
 
 ghost use Rattle.std.specs.Prelude.{◌+◌, ◌<◌, OnOk};
-ghost use Rattle.moment_laws.specs.Places.{IsAtSlot};
-ghost use Rattle.moment_laws.specs.Shown.{IsWhole};
+ghost use Rattle.passed_blocks.specs.moment_laws.Places.{IsAtSlot};
+ghost use Rattle.passed_blocks.specs.moment_laws.Shown.{IsWhole};
 
 use crate::moment::GoodMoment;
 use crate::place::MomentPlace;
@@ -29,7 +29,7 @@ impl<N: World> GoodMoment<N> {
         ensures { OnOk result (IsAtSlot N.design N.plan window.now.before window.now.through slot self.new) }
     {
         // What the window tells of the state before the slot shows its beginning.
-        moment_laws::slots_are_shown();
+        passed_blocks::slots_are_shown();
         keeps_rules(setup);
         // A window has few slots, so that the number of the next one fits.
         let through = window.ends();

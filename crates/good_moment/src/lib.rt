@@ -15,3 +15,4 @@ mod rules;
 mod turning;
 
 pub use moment::GoodMoment;
+pub use passed_blocks::{WindowWakes, limits_tell, places_are_told};

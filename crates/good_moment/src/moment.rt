@@ -7,7 +7,7 @@ ghost use Rattle.v_design.specs.Plain.{due_of, update_of};
 ghost use Rattle.process_code.specs.Codes.{IsCodeOf};
 ghost use Rattle.process_code.specs.declared.code.Code.{Code as CodeKept};
 ghost use Rattle.moment_parts.specs.Lanes.{lanes_left, later_lists};
-ghost use Rattle.moment_laws.specs.Shown.{IsWhole};
+ghost use Rattle.passed_blocks.specs.moment_laws.Shown.{IsWhole};
 ghost use Rattle.good_moment.specs.Kept.{AreBegun};
 
 use crate::place::MomentPlace;
@@ -33,7 +33,7 @@ pub struct GoodMoment<N: World> {
 }
 
 impl<N: World> Model for GoodMoment<N> {
-    ghost use Rattle.moment_laws.specs.Shown.{MomentKept};
+    ghost use Rattle.passed_blocks.specs.moment_laws.Shown.{MomentKept};
     ghost use Rattle.good_moment.specs.Kept.{kept_of};
 
     ghost Value = { MomentKept };

@@ -3,26 +3,25 @@
 ghost use Rattle.std.specs.Prelude.{◌≡◌, ◌++◌, ◌+◌, ◌<◌, ◌≤◌, map, length, OnOk};
 ghost use Rattle.vf_base.specs.Base.{process_number};
 ghost use Rattle.slot_record.specs.Records.{event_of};
-ghost use Rattle.lockstep_slots.specs.Places.{Place};
+ghost use Rattle.passed_blocks.specs.lockstep_slots.Places.{Place};
 ghost use Rattle.moment_parts.specs.Within.{AreWoken};
-ghost use Rattle.window_wakes.specs.declared.wake.Wake.{Wake as WakeKept};
+ghost use Rattle.passed_blocks.specs.window_wakes.declared.wake.Wake.{Wake as WakeKept};
 ghost use Rattle.passed_blocks.specs.Passed.{at_moment};
-ghost use Rattle.moment_laws.specs.Passing.{HasBlock, PassesBlock};
-ghost use Rattle.moment_laws.specs.Places.{IsInWindow, IsShownAt};
-ghost use Rattle.moment_laws.specs.Steps.{untold, PutsBlock, HasRuns, TakesRuns, TakesUpdate, CanTake, Takes};
+ghost use Rattle.passed_blocks.specs.moment_laws.Passing.{HasBlock, PassesBlock};
+ghost use Rattle.passed_blocks.specs.moment_laws.Places.{IsInWindow, IsShownAt};
+ghost use Rattle.passed_blocks.specs.moment_laws.Steps.{untold, PutsBlock, HasRuns, TakesRuns, TakesUpdate, CanTake, Takes};
 
 use crate::block::block_ahead;
 use crate::moment::GoodMoment;
 use causal_monitor::Actor;
 use good_trace::{Setup, TraceWindow};
 use moment_parts::{put_changes, wake_one};
-use moment_runs::{place_behind, take_runs};
 use moment_slices::within;
+use passed_blocks::{Wake, WindowWakes, place_behind, take_runs};
 use process_code::ProcState;
 use v_design::World;
 use vf_base::{NoMemory, ProcId};
 use window_blocks::WindowBlocks;
-use window_wakes::{Wake, WindowWakes};
 
 /// Makes the processes of some wakes ready, and lists them.
 ///
@@ -178,7 +177,7 @@ impl<N: World> GoodMoment<N> {
         // The laws on which the step rests.
         blocks.stands();
         wakes.stands();
-        shown_blocks::blocks_are_ahead();
+        passed_blocks::blocks_are_ahead();
         passed_blocks::blocks_are_passed();
         let phase = self.phase();
         let moment = self.moment();

@@ -2,9 +2,9 @@
 
 ghost use Rattle.std.specs.Prelude.{◌≡◌, List, [], ◌∷◌, OnOk};
 ghost use Rattle.v_design.specs.Grades.{Phase};
-ghost use Rattle.lockstep_slots.specs.Places.{Place};
-ghost use Rattle.moment_laws.specs.Passing.{HasTurn, TakesTurn};
-ghost use Rattle.moment_laws.specs.Places.{IsInWindow, IsShownAt};
+ghost use Rattle.passed_blocks.specs.lockstep_slots.Places.{Place};
+ghost use Rattle.passed_blocks.specs.moment_laws.Passing.{HasTurn, TakesTurn};
+ghost use Rattle.passed_blocks.specs.moment_laws.Places.{IsInWindow, IsShownAt};
 
 use crate::moment::GoodMoment;
 use good_trace::{Setup, TraceWindow};
@@ -30,7 +30,7 @@ impl<N: World> GoodMoment<N> {
             TakesTurn N.design N.plan place next later self.old self.new) }
     {
         // The law on which the turn rests, and how many phases the window has.
-        moment_laws::turns_are_shown();
+        passed_blocks::turns_are_shown();
         let _codes = setup.codes();
         let _phases = window.phases();
         let next = self.place.phase + 1;

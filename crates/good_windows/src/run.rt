@@ -20,7 +20,6 @@ use vf_base::{NoMemory, Steps};
 
 /// The good machine of the world `N` in its first run, with the slots that it ran since the last window. Contracts see it as how many slots of the good first run
 /// stand in windows so far, how many were run, and whether it may be used: after a call that ran out of memory it isn't to be used again.
-#[derive(Drop)]
 pub struct GoodRun<'s, 'd, N: World> {
     /// The plan's end.
     end: u64,
@@ -29,6 +28,19 @@ pub struct GoodRun<'s, 'd, N: World> {
     /// The memory for the log of the slot that is run.
     log: SlotLog,
     stage: Stage,
+}
+
+// Written out, so that its parts are let go of here alone.
+impl<'s, 'd, N: World> Drop for GoodRun<'s, 'd, N> {
+    fn drop(self) {
+        let GoodRun {
+            end: _,
+            machine: _,
+            run: _,
+            log: _,
+            stage: _,
+        } = self;
+    }
 }
 
 impl<'s, 'd, N: World> Model for GoodRun<'s, 'd, N> {

@@ -1,56 +1,58 @@
 -- A block of its own that a fault takes beside the good machine's: it is run, compared and noted, and the runner goes back.
 use Rattle.std.proofs.Common.{◌≡◌, ℕ, zero, suc, ◌+◌, ◌-◌, ◌^◌, ◌<◌, ◌≤◌, List, [], ◌∷◌, ◌++◌, length, map, Bool, true, false, ◌||◌, refl, sym, ap, subst, ◌∙◌, arith}
-use Rattle.std.specs.Prelude.{None, sum_by}
+use Rattle.std.specs.Prelude.{Some, None, sum_by}
 use Rattle.std.proofs.lemmas.List.{length-append}
 use Rattle.vf_base.specs.Base.{object_number}
 use Rattle.vf_base.specs.Lists.{has}
 use Rattle.vf_base.specs.declared.ids.ObjectId.{ObjectId}
 use Rattle.v_design.specs.Designs.{FlatDesign, Machine, StuckAt, TestPlan, good_machine, faulty_machine, width_in}
-use Rattle.v_design.specs.States.{State, Event}
+use Rattle.v_design.specs.PhaseLogs.{is_lane_of}
+use Rattle.v_design.specs.States.{State, Event, process_at, some_in}
 use Rattle.v_design.specs.Runs.{happened, most_steps, work_of}
 use Rattle.v_design.specs.WellFormed.{KeepsRules}
 use Rattle.graded_steps.specs.Behind.{RisesWithin}
 use Rattle.machine.specs.Ticks.{event_steps, process_steps, raised_by, steps-few, steps_so_far}
-use Rattle.machine_laws.specs.SlotLoop.{Moment, ComesTo, after_events, slot_from, steps_of}
+use Rattle.machine_laws.specs.SlotLoop.{Moment, ComesTo, after_events, first_lane, slot_from, steps_of}
 use Rattle.copy_laws.specs.Moves.{ChangesOnly}
 use Rattle.copy_laws.specs.OwnRuns.{EventsTakeNoTime}
-use Rattle.race_laws.specs.Writes.{WritesAreOf}
+use Rattle.race_laws.specs.Writes.{WritesAreOf, WritesStay}
 use Rattle.trace_window.specs.Moments.{window_events}
-use Rattle.block_events.specs.declared.runner.Runner.{Runner}
-use Rattle.block_events.specs.Runners.{machine_of, state_of}
+use Rattle.faulty_block.specs.block_events.declared.runner.Runner.{Runner}
+use Rattle.faulty_block.specs.block_events.Runners.{machine_of, state_of}
 use Rattle.block_told.specs.declared.told.BlockTold.{BlockTold}
 use Rattle.block_told.specs.Tells.{TellsBlock}
 use Rattle.block_filter.specs.Blocks.{BlockPair}
 use Rattle.block_filter.specs.Likes.{AreWider}
 use Rattle.own_told.specs.Told.{ActAlike, CausesAgree}
-use Rattle.window_places.specs.Passing.{events_before}
-use Rattle.window_places.specs.Windows.{IsAtMoment}
-use Rattle.moment_laws.specs.Places.{IsShownAt}
-use Rattle.moment_laws.specs.Shown.{MomentKept}
+use Rattle.lockstep_steps.specs.window_places.Passing.{events_before}
+use Rattle.lockstep_steps.specs.window_places.Windows.{IsAtMoment}
+use Rattle.good_moment.specs.moment_laws.Places.{IsShownAt}
+use Rattle.good_moment.specs.moment_laws.Shown.{MomentKept, is_lane}
 use Rattle.lockstep_laws.specs.Blocks.{ChangesAddUp, with_all_nodes}
 use Rattle.lockstep_laws.specs.Lockstep.{AreInLockstep, LockstepIsBeside}
 use Rattle.lockstep_laws.specs.Phases.{IsInPhase, PhasesFit}
 use Rattle.lockstep_laws.specs.Slots.{KeepsNothingSame}
-use Rattle.lockstep_compare.specs.Compared.{ComparisonsTell, IsKeptBehind}
-use Rattle.lockstep_copy.specs.Kept.{kept_by}
-use Rattle.lockstep_copy.specs.declared.own.LockstepCopy.{LockstepCopy}
-use Rattle.lockstep_room.specs.declared.counts.Counts.{Counts}
-use Rattle.lockstep_slots.specs.Kept.{kept_within}
-use Rattle.lockstep_slots.specs.Pairs.{unlike_pair}
-use Rattle.lockstep_slots.specs.Places.{Place, state_there, behind_events}
-use Rattle.lockstep_slots.specs.Standing.{BlocksDiffer}
-use Rattle.lockstep_notes.specs.Beside.{BeginAlike, IsGoodBlock, TakesIn}
-use Rattle.lockstep_notes.specs.Notes.{NotesTell, marks_of}
+use Rattle.faulty_block.specs.lockstep_compare.Compared.{ComparisonsTell, IsKeptBehind}
+use Rattle.faulty_block.specs.lockstep_copy.Kept.{kept_by}
+use Rattle.faulty_block.specs.lockstep_copy.declared.own.LockstepCopy.{LockstepCopy}
+use Rattle.faulty_block.specs.lockstep_room.declared.counts.Counts.{Counts}
+use Rattle.lockstep_steps.specs.lockstep_slots.Kept.{kept_within}
+use Rattle.lockstep_steps.specs.lockstep_slots.Pairs.{unlike_pair}
+use Rattle.lockstep_steps.specs.lockstep_slots.Places.{Place, state_there, behind_events}
+use Rattle.lockstep_steps.specs.lockstep_slots.Standing.{BlocksDiffer}
+use Rattle.lockstep_steps.specs.lockstep_notes.Beside.{BeginAlike, IsGoodBlock, TakesIn}
+use Rattle.lockstep_steps.specs.lockstep_notes.Notes.{NotesTell, marks_of}
 use Rattle.lockstep_steps.specs.Going.{IsGoing}
 use Rattle.lockstep_steps.specs.Laws.{StepsGoOn}
 use Rattle.lockstep_steps.proofs.Events.{behind-state, place-behind}
 use Rattle.race_notes.specs.Notes.{NotesKept}
-use Rattle.block_compare.proofs.Same.{each-of, or-both}
+use Rattle.faulty_block.proofs.block_compare.Same.{each-of, or-both}
 use Rattle.slot_steps.specs.Laws.{SlotStepsGoOn}
 use Rattle.faulty_block.specs.Runs.{MayRun, RanBlock, StepsWithin}
-use Rattle.faulty_block.proofs.Differs.{is-back}
-use Rattle.lockstep_block.specs.Beside.{ComparesBeside, MayCompareBeside, parts_beside}
+use Rattle.faulty_block.proofs.Differs.{is-back, kept-behind}
+use Rattle.lockstep_block.specs.Beside.{ComparesBeside, MayCompareBeside, acts_beside, parts_beside}
 use Rattle.lockstep_block.specs.Own.{MayRunOwn, TookOwn}
+use Rattle.lockstep_block.proofs.GoodWrites.{good-writes, lane-steps}
 use Rattle.lockstep_block.proofs.Passed.{wide-at}
 
 pub record BlockLaws : Type 0 where
@@ -64,6 +66,10 @@ neither : (b c : Bool) → (b || c) ≡ false → (b ≡ false) × (c ≡ false)
 neither true c e = cc
 neither false true e = cc
 neither false false e = (refl, refl)
+
+second-true : (b c : Bool) → c ≡ true → (b || c) ≡ true
+second-true true c e = refl
+second-true false c e = e
 
 pub in-phase : (machine : Machine) (at : Moment) → ComesTo machine at → IsInPhase machine at.state
 in-phase machine at comes = record { begins = at.phase_begins; events = at.events; asked = comes.phase_asked; is = comes.happened_so_far }
@@ -134,9 +140,17 @@ module _ {design : FlatDesign} {plan : TestPlan} {fault : StuckAt} {from until :
   }
 
   module _ (fit : PhasesFit) (side : LockstepIsBeside) where
+    -- the processes that act in the good machine's block have its first lane among them
+    pub lane-acts : (process : ℕ) → first_lane (state_of runner) ≡ Some process → acts_beside behind process ≡ true
+    lane-acts process is =
+        let good = state_there (good_machine design) of.place in
+        let stepped : some_in (is_lane_of process) of.block ≡ true =
+        lane-steps (good_machine design) good process of.block of.goes.going.stands.between.nodes (ap first_lane (sym of.beside.runs.state_is) ∙ is) of.beside.whole.some of.beside.whole.first in
+        second-true (has behind.acted process) (is_lane behind.lane process) (of.beside.told.lane process ∙ stepped)
+
     -- the runner becomes the faulty machine, and runs its block
-    unfoldable pub may-run : MayRun own runner
-    may-run =
+    unfoldable pub may-run : WritesStay → MayRun (acts_beside behind) own runner
+    may-run law =
         let g = of.goes.going in
         let lockstep = g.stands.lockstep in
         let good_is = of.beside.runs.state_is in
@@ -158,28 +172,35 @@ module _ {design : FlatDesign} {plan : TestPlan} {fault : StuckAt} {from until :
               (sym (side (kept_within (kept_by own) (state_there (good_machine design) of.place)) (state_there (good_machine design) of.place) of.goes.at.state lockstep.lockstep).beside.nodes)
               ∙ g.stands.between.nodes;
           writes = subst (λ (d : FlatDesign). WritesAreOf d of.goes.at.state) (sym same-design) g.writes;
+          good_writes =
+              subst (WritesAreOf (machine_of runner).design) (sym good_is)
+              (subst (λ (d : FlatDesign). WritesAreOf d (state_there (good_machine design) of.place)) (sym same-design)
+              (good-writes law design plan of.slot of.place before of.beside.before_at g.stands.place_is lockstep.good_comes));
           time = subst (λ t. t ≤ 2 ^ 63) (sym time) of.early;
+          lane = lane-acts;
         }
 
     -- the block that it took
-    pub ran-beside : (taken ticks : ℕ) (ran-runner : Runner) (told : BlockTold) →
-        ((run : MayRun own runner) → RanBlock (faulty_machine (machine_of runner).design fault) run.put.faulty taken ticks ran-runner told) →
-        RanBlock (faulty_machine design fault) of.goes.at.state taken ticks ran-runner told
+    pub ran-beside : WritesStay → (taken ticks : ℕ) (ran-runner : Runner) (told : BlockTold) →
+        ((run : MayRun (acts_beside behind) own runner) →
+        RanBlock (faulty_machine (machine_of runner).design fault) (acts_beside behind) run.put.faulty (state_of runner) taken ticks ran-runner told) →
+        RanBlock (faulty_machine design fault) (acts_beside behind) of.goes.at.state (state_of runner) taken ticks ran-runner told
     unfolding may-run
-    ran-beside taken ticks ran-runner told ran =
-        subst (λ (m : Machine). RanBlock (faulty_machine m.design fault) of.goes.at.state taken ticks ran-runner told) of.beside.runs.machine_is (ran may-run)
+    ran-beside writes taken ticks ran-runner told ran =
+        subst (λ (m : Machine). RanBlock (faulty_machine m.design fault) (acts_beside behind) of.goes.at.state (state_of runner) taken ticks ran-runner told) of.beside.runs.machine_is
+        (ran (may-run writes))
 
     -- with the process steps of so much of it as it took, the number is one of a slot, and at most that of the faulty machine's slot
-    pub ticked-fits : SlotStepsGoOn → (ticks : ℕ) → ((run : MayRun own runner) → StepsWithin (faulty_machine (machine_of runner).design fault) run.put.faulty spare ticks) →
+    pub ticked-fits : WritesStay → SlotStepsGoOn → (ticks : ℕ) → ((run : MayRun (acts_beside behind) own runner) → StepsWithin (faulty_machine (machine_of runner).design fault) run.put.faulty spare ticks) →
         (ticked + ticks ≤ most_steps + 1) × (ticked + ticks ≤ process_steps (slot_from (faulty_machine design fault) of.begins))
     unfolding may-run
-    ticked-fits law ticks ran =
+    ticked-fits writes law ticks ran =
         let machine = faulty_machine design fault in
         let at = of.goes.at in
         let low = of.goes.ticks in
         let stands = of.goes.going.stands in
         let room = of.goes.going.room in
-        let within = subst (λ (m : Machine). StepsWithin (faulty_machine m.design fault) at.state spare ticks) of.beside.runs.machine_is (ran may-run) in
+        let within = subst (λ (m : Machine). StepsWithin (faulty_machine m.design fault) at.state spare ticks) of.beside.runs.machine_is (ran (may-run writes)) in
         let few = within.few in
         let are = within.ticked_are in
         let so_far = law.counted machine at stands.lockstep.own_comes in
@@ -190,7 +211,7 @@ module _ {design : FlatDesign} {plan : TestPlan} {fault : StuckAt} {from until :
           subst (λ (s : State). ticked + ticks ≤ process_steps (slot_from machine s)) stands.own_begins (omega (arith, most, low, are)),
         )
 
-  module _ (laws : BlockLaws) (taken ticks : ℕ) (ran-runner : Runner) (told : BlockTold) (ran : RanBlock (faulty_machine design fault) of.goes.at.state taken ticks ran-runner told) (new : LockstepCopy)
+  module _ (laws : BlockLaws) (taken ticks : ℕ) (ran-runner : Runner) (told : BlockTold) (ran : RanBlock (faulty_machine design fault) (acts_beside behind) of.goes.at.state (state_of runner) taken ticks ran-runner told) (new : LockstepCopy)
       (compared : ComparesBeside (state_there (good_machine design) (behind_events of.block of.rest of.place)) (state_of ran-runner) behind told own new) where
     good-changes : ChangesOnly (with_all_nodes (parts_beside behind told)) (state_there (good_machine design) of.place)
         (happened (good_machine design) (state_there (good_machine design) of.place) of.block)
@@ -205,14 +226,19 @@ module _ {design : FlatDesign} {plan : TestPlan} {fault : StuckAt} {from until :
         (λ object none. (neither (has behind.changed object) (has (map object_number told.changed.items) object) none).1) (λ number none. none)
         (λ process none. or-both (compared.acts.acted process) (compared.acts.lanes process) ∙ none)
 
+    -- what is kept is told of the faulty machine's own state
+    kept : IsKeptBehind (parts_beside behind told) (state_there (good_machine design) (behind_events of.block of.rest of.place))
+        (happened (faulty_machine design fault) of.goes.at.state ran.events) (kept_by own) (kept_by new)
+    kept =
+        kept-behind (parts_beside behind told) (state_there (good_machine design) (behind_events of.block of.rest of.place))
+        (happened (faulty_machine design fault) of.goes.at.state ran.events) (state_of ran-runner) (kept_by own) (kept_by new) ran.rest ran.processes compared.kept
+
     differ : BlocksDiffer design fault (parts_beside behind told) (state_there (good_machine design) of.place) of.goes.at.state of.block ran.events (kept_by own) (kept_by new)
     differ =
         laws.compares design fault (parts_beside behind told) (state_there (good_machine design) of.place) of.goes.at.state of.block ran.events (kept_by own) (kept_by new) good-changes
         own-changes of.goes.going.stands.nothing_same
         (subst (λ (s : State). IsKeptBehind (parts_beside behind told) s (happened (faulty_machine design fault) of.goes.at.state ran.events) (kept_by own) (kept_by new))
-        (place-behind (good_machine design) of.place of.block of.rest)
-        (subst (λ (s : State). IsKeptBehind (parts_beside behind told) (state_there (good_machine design) (behind_events of.block of.rest of.place)) s (kept_by own) (kept_by new)) ran.state_is
-        compared.kept))
+        (place-behind (good_machine design) of.place of.block of.rest) kept)
 
     acts : ActAlike design (state_there (good_machine design) of.place) of.block told
     acts = record {
@@ -259,8 +285,8 @@ module _ {design : FlatDesign} {plan : TestPlan} {fault : StuckAt} {from until :
         let good = state_there (good_machine design) of.place in
         let next = state_there (good_machine design) (behind_events of.block of.rest of.place) in
         let next_is : next ≡ happened (good_machine design) good of.block = place-behind (good_machine design) of.place of.block of.rest in
-        let here : (after_events (faulty_machine design fault) ran.events of.goes.at).state ≡ state_of ran-runner =
-        behind-state (faulty_machine design fault) ran.events of.goes.at ∙ sym ran.state_is in
+        let later_own = happened (faulty_machine design fault) of.goes.at.state ran.events in
+        let here : (after_events (faulty_machine design fault) ran.events of.goes.at).state ≡ later_own = behind-state (faulty_machine design fault) ran.events of.goes.at in
         record {
           goes = record {
             at = after_events (faulty_machine design fault) ran.events of.goes.at;
@@ -276,14 +302,15 @@ module _ {design : FlatDesign} {plan : TestPlan} {fault : StuckAt} {from until :
             wide = wide-at fit design of.beside.behind_at.in_order.rules of.place of.beside.runs.asked;
             may = of.beside.runs.may;
             back =
-                is-back side (parts_beside behind told) own new good next of.goes.at.state (state_of ran-runner) of.goes.going.stands.lockstep.lockstep
+                is-back side (parts_beside behind told) own new good next of.goes.at.state later_own (state_of ran-runner) of.goes.going.stands.lockstep.lockstep
                 (record {
                   lockstep = subst (λ (s : State). AreInLockstep (kept_within (kept_by new) next) next s) here going.stands.lockstep.lockstep;
                   nothing_same = going.stands.nothing_same;
                 })
-                (subst (λ (s : State). ChangesOnly (with_all_nodes (parts_beside behind told)) good s) (sym next_is) good-changes)
-                (subst (λ (s : State). ChangesOnly (with_all_nodes (parts_beside behind told)) of.goes.at.state s) (sym ran.state_is) own-changes) compared.kept
-                of.beside.before_at.between.nodes of.beside.behind_at.between.nodes (ap (λ (s : State). s.time) next_is ∙ times (good_machine design) good of.block);
+                (subst (λ (s : State). ChangesOnly (with_all_nodes (parts_beside behind told)) good s) (sym next_is) good-changes) own-changes kept
+                of.beside.before_at.between.nodes of.beside.behind_at.between.nodes (ap (λ (s : State). s.time) next_is ∙ times (good_machine design) good of.block) ran.rest ran.count
+                (λ process none.
+                ran.others process none (or-both (compared.acts.acted process) (compared.acts.lanes process) ∙ none) ∙ ap (λ (s : State). process_at s process) of.beside.runs.state_is);
           };
           good_is = sym of.beside.runs.state_is;
         }

@@ -15,12 +15,12 @@ use Rattle.run_ends.specs.RunEnds.{AreCodesOf}
 use Rattle.copy_laws.specs.Moves.{ChangesOnly}
 use Rattle.copy_laws.specs.OwnRuns.{EventsTakeNoTime}
 use Rattle.lockstep_laws.specs.Phases.{PhasesFit}
-use Rattle.block_events.specs.declared.runner.Runner.{Runner}
-use Rattle.block_events.specs.Runners.{machine_of, state_of}
-use Rattle.moment_laws.specs.Shown.{MomentKept, parts_told}
-use Rattle.lockstep_exchange.specs.Exchange.{AreWide}
-use Rattle.lockstep_room.specs.Rooms.{MayFollow, MayStandAt, MayStandSo, parts_listed}
-use Rattle.lockstep_slots.specs.Places.{Place, state_there, behind_events}
+use Rattle.faulty_block.specs.block_events.declared.runner.Runner.{Runner}
+use Rattle.faulty_block.specs.block_events.Runners.{machine_of, state_of}
+use Rattle.good_moment.specs.moment_laws.Shown.{MomentKept, parts_told}
+use Rattle.faulty_block.specs.lockstep_exchange.Exchange.{AreWide}
+use Rattle.faulty_block.specs.lockstep_room.Rooms.{MayFollow, MayStandAt, MayStandSo, parts_listed}
+use Rattle.lockstep_steps.specs.lockstep_slots.Places.{Place, state_there, behind_events}
 use Rattle.lockstep_steps.proofs.Events.{place-behind}
 use Rattle.moments_stand.specs.Standing.{AllMayStand, MomentsStand}
 use Rattle.lockstep_block.specs.Rooms.{IsBesideBlock, MayStandThere}

@@ -1,6 +1,6 @@
 -- What is shown of a moment is what the moment has, and what a block that was passed has changed.
-use Rattle.std.proofs.Common.{◌≡◌, ℕ, ◌<◌, List, [], get_or, length, map, true, ◌||◌, sym, ap, subst, ◌∙◌, nat_eq, refl, inl, inr}
-use Rattle.std.specs.Prelude.{slice_get, Option, Some, None}
+use Rattle.std.proofs.Common.{◌≡◌, ℕ, ◌<◌, List, [], get_or, length, map, Bool, true, ◌||◌, sym, ap, subst, ◌∙◌, nat_eq, refl, inl, inr}
+use Rattle.std.specs.Prelude.{IfSome, slice_get, Option, Some, None}
 use Rattle.std.specs.Option.{option_map}
 use Rattle.vf_base.specs.Base.{object_number, process_number}
 use Rattle.vf_base.specs.Lists.{has}
@@ -14,30 +14,32 @@ use Rattle.process_code.specs.declared.state.ProcState.{ProcState}
 use Rattle.run_ends.specs.RunEnds.{AreCodesOf}
 use Rattle.good_trace.specs.RunsKept.{Stands}
 use Rattle.copy_laws.specs.Moves.{Parts, ChangesOnly}
-use Rattle.block_events.specs.declared.runner.Runner.{Runner}
-use Rattle.block_events.specs.Runners.{machine_of, state_of}
+use Rattle.faulty_block.specs.block_events.declared.runner.Runner.{Runner}
+use Rattle.faulty_block.specs.block_events.Runners.{machine_of, state_of}
 use Rattle.block_told.specs.declared.told.BlockTold.{BlockTold}
 use Rattle.block_told.specs.Tells as told_block
-use Rattle.moment_laws.specs.Shown.{MomentKept, ShowsState, is_lane, parts_told}
-use Rattle.lockstep_compare.specs.Compared.{IsKeptBehind}
-use Rattle.lockstep_copy.specs.Kept.{kept_by}
-use Rattle.lockstep_copy.specs.declared.own.LockstepCopy.{LockstepCopy}
-use Rattle.lockstep_exchange.specs.Exchange.{AreWide}
-use Rattle.lockstep_room.specs.declared.counts.Counts.{Counts}
-use Rattle.lockstep_room.specs.Rooms.{AreCounts, lane_numbers, parts_listed}
-use Rattle.lockstep_room.proofs.Standing.{some-code}
+use Rattle.good_moment.specs.moment_laws.Shown.{MomentKept, ShowsState, is_lane, parts_told}
+use Rattle.faulty_block.specs.lockstep_compare.Compared.{IsKeptBehind}
+use Rattle.faulty_block.specs.lockstep_copy.Kept.{kept_by}
+use Rattle.faulty_block.specs.lockstep_copy.declared.own.LockstepCopy.{LockstepCopy}
+use Rattle.faulty_block.specs.lockstep_exchange.Exchange.{AreWide}
+use Rattle.faulty_block.specs.lockstep_room.declared.counts.Counts.{Counts}
+use Rattle.faulty_block.specs.lockstep_room.Rooms.{AreCounts, parts_listed}
+use Rattle.faulty_block.specs.lockstep_exchange.Putting.{lane_numbers}
+use Rattle.faulty_block.proofs.lockstep_room.Standing.{some-code}
 use Rattle.moments_stand.specs.Standing.{AllMayStand}
-use Rattle.moment_shown.specs.declared.shown.ShownBlock.{ShownBlock}
-use Rattle.moment_shown.specs.declared.shown.ShownMoment.{ShownMoment}
-use Rattle.moment_shown.specs.Shown.{Shows, ShowsParts}
-use Rattle.block_compare.specs.Comparing.{Compares, HaveCodes, MayCompare, parts_both}
+use Rattle.faulty_block.specs.moment_shown.declared.shown.ShownBlock.{ShownBlock}
+use Rattle.faulty_block.specs.moment_shown.declared.shown.ShownMoment.{ShownMoment}
+use Rattle.faulty_block.specs.moment_shown.Shown.{Shows, ShowsParts}
+use Rattle.faulty_block.specs.block_compare.Comparing.{Compares, HaveCodes, MayCompare, parts_both}
 use Rattle.faulty_block.specs.Back.{IsBackBut, MayPutBack}
-use Rattle.lockstep_block.specs.Beside.{ComparesBeside, MayCompareBeside, MayPutBackTo, parts_beside}
+use Rattle.faulty_block.specs.Runs.{MayRun, RanBlock, acts_in}
+use Rattle.lockstep_block.specs.Beside.{ComparesBeside, MayCompareBeside, MayPutBackTo, acts_beside, parts_beside}
 use Rattle.std.proofs.lemmas.Bool.{cases_eq, eq-eqb, ne_eqb}
 use Rattle.graph_order.specs.ListLaws.{or-false}
 use Rattle.vf_base.specs.declared.ids.ProcId.{ProcId}
 use Rattle.machine_laws.specs.SlotLoop.{NoNodeWorks}
-use Rattle.block_compare.proofs.Same.{or-both}
+use Rattle.faulty_block.proofs.block_compare.Same.{or-both}
 use Rattle.faulty_block.proofs.Rests.{rests-node}
 
 eq-swapped : (one other : ℕ) → nat_eq one other ≡ nat_eq other one
@@ -97,6 +99,29 @@ module _ (behind : MomentKept) (block : ShownBlock) (changed : map object_number
     nodes = λ number. true;
     processes = λ process. has (acted i) process || lane-same block.lane behind.lane process lane i;
   }
+
+  pub acts-same : acts_in block ≡ acts_beside behind
+  acts-same = λ i. λ process. has (acted i) process || lane-same block.lane behind.lane process lane i
+
+  -- what a runner may do beside a moment's block it may do beside the block that is shown
+  unfoldable pub may-run-shown : (own : LockstepCopy) (runner : Runner) → MayRun (acts_beside behind) own runner → MayRun (acts_in block) own runner
+  may-run-shown own runner of = record {
+    rules = of.rules;
+    put = of.put;
+    rests = of.rests;
+    writes = of.writes;
+    good_writes = of.good_writes;
+    time = of.time;
+    lane = λ process is. ap (λ (acts : ℕ → Bool). acts process) acts-same ∙ of.lane process is;
+  }
+
+  pub ran-shown : (machine : Machine) (own : LockstepCopy) (runner ran : Runner) (ticked : ℕ) (told : BlockTold) (found : Option ℕ) →
+      IfSome found (λ taken. (of : MayRun (acts_in block) own runner) → RanBlock machine (acts_in block) of.put.faulty (state_of runner) taken ticked ran told) →
+      IfSome found (λ taken. (of : MayRun (acts_beside behind) own runner) → RanBlock machine (acts_beside behind) of.put.faulty (state_of runner) taken ticked ran told)
+  unfolding may-run-shown
+  ran-shown machine own runner ran ticked told None is = tt
+  ran-shown machine own runner ran ticked told (Some taken) is = λ of.
+      subst (λ (acts : ℕ → Bool). RanBlock machine acts of.put.faulty (state_of runner) taken ticked ran told) acts-same (is (may-run-shown own runner of))
 
   pub may-compare-shown : (design : FlatDesign) (machine : Machine) (counts : Counts) (good : ShownMoment) (codes : List Code) → design_of good.design.now ≡ design →
       ((state : State) → ShowsState design state behind → Shows good state) → AreCodesOf design codes → AreCounts design counts → MayCompareBeside design machine behind →

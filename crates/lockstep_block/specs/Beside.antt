@@ -1,28 +1,32 @@
 -- What the good machine's moments show to a block of the faulty machine's own (blocks by IEEE 1364-2001, clause 5).
-use Rattle.std.specs.Prelude.{◌≡◌, ℕ, ◌<◌, ◌||◌, true, length, map}
+use Rattle.std.specs.Prelude.{◌≡◌, ℕ, ◌<◌, ◌||◌, Bool, true, length, map}
 use Rattle.vf_base.specs.Base.{object_number, process_number}
 use Rattle.vf_base.specs.Lists.{has}
 use Rattle.v_design.specs.Designs.{FlatDesign, Machine}
 use Rattle.v_design.specs.States.{State}
 use Rattle.copy_laws.specs.Moves.{Parts}
-use Rattle.block_events.specs.declared.runner.Runner.{Runner}
-use Rattle.block_events.specs.Runners.{machine_of, state_of}
+use Rattle.faulty_block.specs.block_events.declared.runner.Runner.{Runner}
+use Rattle.faulty_block.specs.block_events.Runners.{machine_of, state_of}
 use Rattle.block_told.specs.declared.told.BlockTold.{BlockTold}
 use Rattle.block_told.specs.Tells as told_block
-use Rattle.moment_laws.specs.Shown.{MomentKept, ShowsState, is_lane}
-use Rattle.lockstep_compare.specs.Compared.{IsKeptBehind}
-use Rattle.lockstep_copy.specs.Kept.{kept_by}
-use Rattle.lockstep_copy.specs.declared.own.LockstepCopy.{LockstepCopy}
-use Rattle.lockstep_exchange.specs.Exchange.{AreWide}
+use Rattle.good_moment.specs.moment_laws.Shown.{MomentKept, ShowsState, is_lane}
+use Rattle.faulty_block.specs.lockstep_compare.Compared.{IsKeptBehind}
+use Rattle.faulty_block.specs.lockstep_copy.Kept.{kept_by}
+use Rattle.faulty_block.specs.lockstep_copy.declared.own.LockstepCopy.{LockstepCopy}
+use Rattle.faulty_block.specs.lockstep_exchange.Exchange.{AreWide}
 use Rattle.moments_stand.specs.Standing.{AllMayStand}
 use Rattle.faulty_block.specs.Back.{IsBackBut}
+
+-- the processes that act in the good machine's block
+abbrev pub acts_beside : MomentKept → ℕ → Bool
+acts_beside behind process = has behind.acted process || is_lane behind.lane process
 
 -- what the good machine's block and the faulty one's tell to have changed
 abbrev pub parts_beside : MomentKept → BlockTold → Parts
 parts_beside behind told = record {
   objects = λ object. has behind.changed object || has (map object_number told.changed.items) object;
   nodes = λ number. true;
-  processes = λ process. has behind.acted process || is_lane behind.lane process;
+  processes = acts_beside behind;
 }
 
 -- both blocks step and wake the same processes, and step the same lane

@@ -6,9 +6,9 @@ use Rattle.v_design.specs.States.{State}
 use Rattle.machine.specs.Ticks.{steps_so_far}
 use Rattle.machine_laws.specs.SlotLoop.{Moment}
 use Rattle.block_filter.specs.Blocks.{BlockPair}
-use Rattle.lockstep_copy.specs.Kept.{kept_by}
-use Rattle.lockstep_copy.specs.declared.own.LockstepCopy.{LockstepCopy}
-use Rattle.lockstep_slots.specs.Places.{Place}
+use Rattle.faulty_block.specs.lockstep_copy.Kept.{kept_by}
+use Rattle.faulty_block.specs.lockstep_copy.declared.own.LockstepCopy.{LockstepCopy}
+use Rattle.lockstep_steps.specs.lockstep_slots.Places.{Place}
 use Rattle.lockstep_steps.specs.Going.{IsGoing}
 use Rattle.race_notes.specs.Notes.{NotesKept}
 

@@ -3,14 +3,14 @@ use Rattle.std.specs.Prelude.{◌≡◌, ℕ, ◌≤◌, ◌^◌, List}
 use Rattle.v_design.specs.Designs.{FlatDesign, StuckAt, TestPlan, faulty_machine}
 use Rattle.v_design.specs.States.{State, Event}
 use Rattle.v_design.specs.Runs.{FirstSlot}
-use Rattle.block_events.specs.declared.runner.Runner.{Runner}
-use Rattle.block_events.specs.Runners.{IsWhole, machine_of, state_of}
+use Rattle.faulty_block.specs.block_events.declared.runner.Runner.{Runner}
+use Rattle.faulty_block.specs.block_events.Runners.{IsWhole, machine_of, state_of}
 use Rattle.block_told.specs.declared.told.BlockTold.{BlockTold}
-use Rattle.moment_laws.specs.Shown.{MomentKept}
-use Rattle.lockstep_copy.specs.declared.own.LockstepCopy.{LockstepCopy}
-use Rattle.lockstep_room.specs.declared.counts.Counts.{Counts}
-use Rattle.lockstep_room.specs.Rooms.{AreCounts}
-use Rattle.lockstep_slots.specs.Places.{Place, behind_events}
+use Rattle.good_moment.specs.moment_laws.Shown.{MomentKept}
+use Rattle.faulty_block.specs.lockstep_copy.declared.own.LockstepCopy.{LockstepCopy}
+use Rattle.faulty_block.specs.lockstep_room.declared.counts.Counts.{Counts}
+use Rattle.faulty_block.specs.lockstep_room.Rooms.{AreCounts}
+use Rattle.lockstep_steps.specs.lockstep_slots.Places.{Place, behind_events}
 use Rattle.race_notes.specs.Notes.{NotesKept}
 use Rattle.lockstep_block.specs.Beside.{MayPutBackTo}
 use Rattle.lockstep_block.specs.Blocks.{FaultGoes}

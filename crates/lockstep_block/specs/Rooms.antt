@@ -4,15 +4,15 @@ use Rattle.v_design.specs.Designs.{FlatDesign, TestPlan, good_machine}
 use Rattle.v_design.specs.Laws.{BeginsPhase}
 use Rattle.v_design.specs.States.{Event}
 use Rattle.phase_blocks.specs.Blocks.{IsWholeBlock}
-use Rattle.block_events.specs.declared.runner.Runner.{Runner}
-use Rattle.block_events.specs.Runners.{IsWhole, machine_of, state_of}
-use Rattle.moment_laws.specs.Passing.{SameSlot, TellsPassed}
-use Rattle.moment_laws.specs.Places.{IsShownAt}
-use Rattle.moment_laws.specs.Shown.{MomentKept}
-use Rattle.moment_laws.specs.Shown as moments
-use Rattle.lockstep_room.specs.declared.counts.Counts.{Counts}
-use Rattle.lockstep_room.specs.Rooms.{AreCounts}
-use Rattle.lockstep_slots.specs.Places.{Place, state_there, behind_events}
+use Rattle.faulty_block.specs.block_events.declared.runner.Runner.{Runner}
+use Rattle.faulty_block.specs.block_events.Runners.{IsWhole, machine_of, state_of}
+use Rattle.good_moment.specs.moment_laws.Passing.{SameSlot, TellsPassed}
+use Rattle.good_moment.specs.moment_laws.Places.{IsShownAt}
+use Rattle.good_moment.specs.moment_laws.Shown.{MomentKept}
+use Rattle.good_moment.specs.moment_laws.Shown as moments
+use Rattle.faulty_block.specs.lockstep_room.declared.counts.Counts.{Counts}
+use Rattle.faulty_block.specs.lockstep_room.Rooms.{AreCounts}
+use Rattle.lockstep_steps.specs.lockstep_slots.Places.{Place, state_there, behind_events}
 use Rattle.moments_stand.specs.Standing.{AllMayStand}
 
 -- between two slots a room may stand anywhere: its runner and its moments are whole, and of the design

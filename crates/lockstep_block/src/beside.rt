@@ -1,31 +1,33 @@
 // What the good machine's moments show, and a block of the faulty machine's own beside them.
 
-ghost use Rattle.std.specs.Prelude.{◌≡◌, true, map, IfOk, OnOk};
+ghost use Rattle.std.specs.Prelude.{◌≡◌, ◌≤◌, true, map, IfOk, IfSome, OnOk};
 ghost use Rattle.std.specs.Option.{option_map};
 ghost use Rattle.vf_base.specs.Base.{object_number, process_number};
-ghost use Rattle.v_design.specs.Designs.{good_machine};
+ghost use Rattle.v_design.specs.Designs.{faulty_machine, good_machine};
+ghost use Rattle.v_design.specs.Plain.{fault_of};
 ghost use Rattle.v_design.specs.PlainDesigns.{design_of};
 ghost use Rattle.v_design.specs.States.{State};
-ghost use Rattle.block_events.specs.Runners.{IsWhole, machine_of, state_of};
-ghost use Rattle.moment_laws.specs.Shown.{ShowsState};
-ghost use Rattle.moment_shown.specs.Shown.{Shows};
-ghost use Rattle.lockstep_room.specs.Rooms.{AreCounts};
-ghost use Rattle.lockstep_block.specs.Beside.{ComparesBeside, MayCompareBeside, MayPutBackTo};
+ghost use Rattle.machine.specs.Ticks.{raised_by};
+ghost use Rattle.faulty_block.specs.block_events.Runners.{IsWhole, machine_of, state_of};
+ghost use Rattle.faulty_block.specs.Runs.{MayRun, RanBlock, StepsWithin};
+ghost use Rattle.good_moment.specs.moment_laws.Shown.{ShowsState};
+ghost use Rattle.faulty_block.specs.moment_shown.Shown.{Shows};
+ghost use Rattle.faulty_block.specs.lockstep_room.Rooms.{AreCounts};
+ghost use Rattle.lockstep_block.specs.Beside.{ComparesBeside, MayCompareBeside, MayPutBackTo, acts_beside};
 
-use block_compare::compare_block;
-use block_events::Runner;
 use block_told::BlockTold;
-use faulty_block::put_back;
+use faulty_block::{
+    Counts, FaultyRun, LockstepCopy, Runner, ShownBlock, ShownMoment, compare_block, put_back,
+    run_faulty,
+};
 use good_moment::GoodMoment;
 use good_trace::Setup;
-use lockstep_copy::LockstepCopy;
-use lockstep_notes::Standing;
-use lockstep_room::Counts;
-use moment_shown::{ShownBlock, ShownMoment};
+use lockstep_steps::Standing;
 use process_code::ProcState;
 use std::alloc::Global;
-use v_design::World;
-use vf_base::{NoMemory, ProcId};
+use std::sync::ledger::Ledger;
+use v_design::{Fault, World};
+use vf_base::{NoMemory, ProcId, Steps};
 
 /// Where the processes of a state stand that is shown.
 #[derive(Clone, Copy)]
@@ -35,7 +37,7 @@ pub(crate) struct ShownProcesses<'a> {
 
 impl<'a> Standing for ShownProcesses<'a> {
     ghost use Rattle.v_design.specs.PlainDesigns.{design_of};
-    ghost use Rattle.moment_shown.specs.Shown.{Shows};
+    ghost use Rattle.faulty_block.specs.moment_shown.Shown.{Shows};
 
     ghost design = { λ own. design_of own.good.design.now };
 
@@ -75,6 +77,33 @@ fn show_block<N: World>(moment: &GoodMoment<N>) -> ShownBlock<'_>
         acted: moment.acted(),
         lane: moment.lane_stepped(),
     }
+}
+
+/// The runner becomes the faulty machine of a fault with what is kept of it, and runs its next block, beside the good machine's block, which a moment passed last. It is given up where it
+/// takes more process and lane steps than so many; `told` tells it. `steps` ticks once for each process step that was taken.
+pub(crate) fn run_beside<N: World, L: Ledger>(
+    runner: &mut Runner<'_>,
+    told: &mut BlockTold,
+    behind: &GoodMoment<N>,
+    own: &LockstepCopy,
+    fault: Fault,
+    most: u32,
+    steps: &mut Steps<L>,
+) -> Result<FaultyRun, NoMemory>
+    requires whole { IsWhole runner.old }
+    requires run { MayRun (acts_beside behind.now) own.now runner.old }
+    ensures whole { OnOk result (IsWhole runner.new) }
+    ensures machine { OnOk result (machine_of runner.new ≡ faulty_machine (machine_of runner.old).design (fault_of fault)) }
+    ensures few { IfOk result (λ ran. IfSome ran.taken (λ taken. taken ≤ most)) }
+    ensures ran { IfOk result (λ ran. IfSome ran.taken (λ taken. (of : MayRun (acts_beside behind.now) own.now runner.old) →
+        RanBlock (faulty_machine (machine_of runner.old).design (fault_of fault)) (acts_beside behind.now) of.put.faulty (state_of runner.old) taken ran.ticked runner.new told.new)) }
+    ensures ticks { IfOk result (λ ran. steps.new ≡ raised_by ran.ticked steps.old) }
+    ensures most { IfOk result (λ ran. (of : MayRun (acts_beside behind.now) own.now runner.old) →
+        StepsWithin (faulty_machine (machine_of runner.old).design (fault_of fault)) of.put.faulty most ran.ticked) }
+{
+    let block = show_block(behind);
+    let ran = run_faulty(runner, told, own, fault, &block, most, steps)?;
+    Ok(ran)
 }
 
 /// A block of the faulty machine's own, which the runner took, is compared with the good machine's block, which a moment passed last. The answer is whether lockstep goes on; else nothing

@@ -11,9 +11,11 @@ mod own;
 mod pass;
 mod room;
 
-pub use good_moment::GoodMoment;
+pub use faulty_block::{LockstepCopy, begin_slot, kept_ends, lanes_tell_turns, turn_writes};
+pub use good_moment::{GoodMoment, WindowWakes, limits_tell, places_are_told};
 pub use lockstep_filter::{FilterRoom, is_free};
 pub use lockstep_steps::steps_go_on;
 pub use own::run_own_block;
 pub use pass::{follow_block, stand_at};
 pub use room::{FaultInSlot, LockstepRoom};
+pub use slot_steps::slot_steps_go_on;

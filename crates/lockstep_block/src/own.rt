@@ -6,16 +6,15 @@ ghost use Rattle.v_design.specs.Plain.{fault_of};
 ghost use Rattle.machine_laws.specs.SlotLoop.{slot_from};
 ghost use Rattle.machine.specs.Ticks.{process_steps};
 ghost use Rattle.graded_steps.specs.Behind.{RisesWithin};
-ghost use Rattle.block_events.specs.Runners.{state_of};
-ghost use Rattle.lockstep_slots.specs.Places.{behind_events};
+ghost use Rattle.faulty_block.specs.block_events.Runners.{state_of};
+ghost use Rattle.lockstep_steps.specs.lockstep_slots.Places.{behind_events};
 ghost use Rattle.lockstep_block.specs.Blocks.{FaultGoes};
 ghost use Rattle.lockstep_block.specs.Own.{MayRunOwn, RoomStays, RoomTakes, TookOwn};
 
-use crate::beside::{ShownProcesses, compare_beside, put_back_to, show};
+use crate::beside::{ShownProcesses, compare_beside, put_back_to, run_beside, show};
 use crate::room::{FaultInSlot, LockstepRoom};
-use faulty_block::run_faulty;
 use good_trace::{Setup, TraceWindow};
-use lockstep_notes::note_block;
+use lockstep_steps::note_block;
 use std::alloc::Global;
 use std::sync::ledger::Ledger;
 use v_design::{Fault, World};
@@ -47,18 +46,20 @@ fn take_own_block<N: World, L: Ledger>(
         one.old.spare one.old.ticked) → one.new.ticked ≤ process_steps (slot_from (faulty_machine N.design (fault_of fault)) of.begins)) }
 {
     copy_laws::own_runs();
+    race_laws::writes_stay();
     lockstep_laws::phases_fit();
     lockstep_laws::lockstep_is_beside();
     lockstep_laws::lockstep_blocks();
-    lockstep_compare::comparisons_tell();
+    faulty_block::comparisons_tell();
     own_told::causes_agree();
     lockstep_steps::steps_go_on();
     slot_steps::slot_steps_go_on();
     let first = room.before.moment();
     let end = room.behind.moment();
-    let ran = run_faulty(
+    let ran = run_beside(
         &mut room.runner,
         &mut room.told,
+        &room.behind,
         &one.own,
         fault,
         one.spare,

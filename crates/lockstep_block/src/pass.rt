@@ -1,17 +1,16 @@
 // The room from one block to the next.
 
 ghost use Rattle.std.specs.Prelude.{◌≡◌, ◌<◌, OnOk};
-ghost use Rattle.lockstep_room.specs.Rooms.{AreCounts};
-ghost use Rattle.lockstep_slots.specs.Places.{behind_events};
+ghost use Rattle.faulty_block.specs.lockstep_room.Rooms.{AreCounts};
+ghost use Rattle.lockstep_steps.specs.lockstep_slots.Places.{behind_events};
 ghost use Rattle.v_design.specs.Designs.{good_machine};
-ghost use Rattle.block_events.specs.Runners.{IsWhole, machine_of};
+ghost use Rattle.faulty_block.specs.block_events.Runners.{IsWhole, machine_of};
 ghost use Rattle.lockstep_block.specs.Rooms.{CanFollow, IsRunnerAt, MayStandThere};
 
 use crate::beside::show;
-use block_events::Runner;
+use faulty_block::{Counts, Runner, follow, stand};
 use good_moment::GoodMoment;
 use good_trace::Setup;
-use lockstep_room::{Counts, follow, stand};
 use v_design::World;
 use vf_base::NoMemory;
 

@@ -2,17 +2,15 @@
 
 ghost use Rattle.std.specs.Prelude.{◌≡◌, IfOk};
 ghost use Rattle.v_design.specs.Designs.{good_machine};
-ghost use Rattle.block_events.specs.Runners.{IsWhole, machine_of};
-ghost use Rattle.lockstep_room.specs.Rooms.{AreCounts};
+ghost use Rattle.faulty_block.specs.block_events.Runners.{IsWhole, machine_of};
+ghost use Rattle.faulty_block.specs.lockstep_room.Rooms.{AreCounts};
 ghost use Rattle.lockstep_block.specs.Rooms.{IsLockstepRoom};
 
-use block_events::Runner;
 use block_told::BlockTold;
+use faulty_block::{Counts, LockstepCopy, Runner};
 use good_moment::GoodMoment;
 use good_trace::Setup;
-use lockstep_copy::LockstepCopy;
 use lockstep_filter::FilterRoom;
-use lockstep_room::Counts;
 use net_state::NetState;
 use process_table::ProcessTable;
 use race_notes::RaceNotes;

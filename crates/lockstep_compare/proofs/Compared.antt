@@ -11,8 +11,8 @@ use Rattle.copy_laws.specs.Moves.{Parts, ChangesOnly}
 use Rattle.lockstep_laws.specs.Blocks.{with_all_nodes}
 use Rattle.lockstep_laws.specs.Slots.{KeepsNothingSame}
 use Rattle.lockstep_index.specs.Writes.{OwnWrites, with_writes}
-use Rattle.lockstep_slots.specs.Kept.{LockstepKept, kept_within}
-use Rattle.lockstep_slots.specs.Standing.{BlocksDiffer}
+use Rattle.lockstep_copy.specs.lockstep_slots.Kept.{LockstepKept, kept_within}
+use Rattle.lockstep_copy.specs.lockstep_slots.Standing.{BlocksDiffer}
 use Rattle.lockstep_copy.specs.Kept.{TellsWrites}
 use Rattle.lockstep_compare.specs.Compared.{writes_in, IsKeptBehind, ComparisonsTell}
 

@@ -9,8 +9,8 @@ use Rattle.copy_between.specs.Differing.{IsDifference}
 use Rattle.lockstep_laws.specs.Blocks.{with_all_nodes}
 use Rattle.lockstep_laws.specs.Slots.{KeepsNothingSame}
 use Rattle.lockstep_index.specs.Writes.{OwnWrites}
-use Rattle.lockstep_slots.specs.Kept.{LockstepKept, kept_within}
-use Rattle.lockstep_slots.specs.Standing.{BlocksDiffer}
+use Rattle.lockstep_copy.specs.lockstep_slots.Kept.{LockstepKept, kept_within}
+use Rattle.lockstep_copy.specs.lockstep_slots.Standing.{BlocksDiffer}
 use Rattle.lockstep_copy.specs.Kept.{TellsWrites}
 
 -- what a process has yet to write

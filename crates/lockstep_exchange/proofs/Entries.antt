@@ -2,11 +2,13 @@
 use Rattle.std.proofs.Common.{◌≡◌, ℕ, ◌+◌, ◌^◌, ◌<◌, ◌≤◌, List, length, true, refl, sym, ap, ◌∙◌, arith}
 use Rattle.std.specs.Prelude.{Option, Some, None, is_some}
 use Rattle.std.specs.Option.{option_map}
+use Rattle.vf_base.specs.Base.{object_number}
 use Rattle.v_design.specs.PlainDesigns.{design_of}
 use Rattle.v_design.specs.RulesHold.{rules_hold}
 use Rattle.v_design.specs.WellFormed.{KeepsRules}
 use Rattle.copy_laws.specs.Differences.{own_of, Ascend}
 use Rattle.copy_state.specs.Entries.{first_from}
+use Rattle.copy_state.specs.declared.entry.HeldValue.{HeldValue}
 use Rattle.copy_skip.specs.Entries.{next-kept}
 use Rattle.block_events.specs.declared.runner.Runner.{Runner}
 use Rattle.block_events.specs.Runners.{machine_of, state_of, IsWhole}
@@ -14,6 +16,10 @@ use Rattle.block_events.proofs.Nodes.{object-count, process-count}
 use Rattle.lockstep_exchange.proofs.Puts.{left_of, left-falls}
 
 -- Entries
+
+-- the number of an object whose value was found
+abbrev pub held_number : HeldValue → ℕ
+held_number held = object_number held.object
 
 some-is : {A : Type 0} (found : Option A) → is_some found ≡ true → (x : A) × (found ≡ Some x)
 some-is None e = cc

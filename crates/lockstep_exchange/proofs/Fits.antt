@@ -14,12 +14,11 @@ use Rattle.v_design.specs.States.{State, ProcessState, LaterUpdate, process_at, 
 use Rattle.copy_laws.specs.Differences.{own_of}
 use Rattle.lockstep_laws.specs.Lockstep.{due_times}
 use Rattle.lockstep_index.specs.Writes.{OwnWrites, with_writes}
-use Rattle.lockstep_slots.specs.Kept.{kept_within}
+use Rattle.lockstep_copy.specs.lockstep_slots.Kept.{kept_within}
 use Rattle.lockstep_copy.specs.Kept.{kept_by}
 use Rattle.lockstep_copy.specs.declared.own.LockstepCopy.{LockstepCopy}
-use Rattle.lockstep_exchange.specs.Putting.{KeptFits, ShownFits, ValuesArePut}
-use Rattle.lockstep_exchange.proofs.Kept.{found-none}
-use Rattle.lockstep_exchange.specs.Exchange.{LockstepIsButFor, MakesLockstep, MayPutIn, MayTakeOut}
+use Rattle.lockstep_exchange.specs.Putting.{KeptFits, ShownFits}
+use Rattle.lockstep_exchange.specs.Exchange.{MakesLockstep, MayPutIn, MayTakeOut}
 
 -- Times
 
@@ -110,30 +109,9 @@ shown-fits design shows own now of = record {
   good = of.good;
   shown = of.shown;
   value_count = sym of.but_for.value_count;
-  process_count = sym of.but_for.process_count;
   values = λ object value is.
       let low = of.but_for.objects_there object value is in
       record { there = omega (arith, low, of.but_for.value_count); width = of.wide object low };
-  updates = λ process later is.
-      let fit = of.but_for.later process later is in
-      record {
-        there = omega (arith, fit.there, of.but_for.process_count);
-        due = subst (λ time. AllHold (λ (update : LaterUpdate). time ≤ update.time) (process_at of.good process).later) (sym of.but_for.time_is) fit.due;
-      };
-}
-
-pub lockstep_is_but_for : LockstepIsButFor
-lockstep_is_but_for own good faulty makes none = record {
-  value_count = makes.lockstep.within.value_count;
-  node_count = makes.lockstep.within.node_count;
-  process_count = makes.lockstep.within.process_count;
-  time_is = sym makes.lockstep.time;
-  nodes = makes.lockstep.within.nodes;
-  values = λ object is. makes.lockstep.within.values object ∙ ap (found_or (value_at good.values object)) is;
-  processes = λ process is. makes.lockstep.within.processes process ∙ ap (found_or (process_at good process)) (found-none own good process is);
-  objects_there = object-there own good faulty makes;
-  does = λ process later is. ap (λ (p : ProcessState). p.activity) (process-is own good faulty makes process later is);
-  later = λ process later is. record { there = process-there own good faulty makes process later is; due = none process };
 }
 
 -- What fits a state fits another one of as many values and processes at its time
@@ -148,23 +126,3 @@ fits-again design own old new values processes time fits = record {
       let fit = fits.updates process later is in
       record { there = omega (arith, fit.there, processes); due = subst (λ t. AllHold (λ (update : LaterUpdate). t ≤ update.time) later) (sym time) fit.due };
 }
-
-unfoldable pub shown-later : (design other : FlatDesign) → other ≡ design → (shows : State → Type 0) (own : LockstepCopy) (found : ℕ → Option LogicValue) (old new : State) → ShownFits design shows old own →
-    ValuesArePut found old new → ShownFits other shows new own
-shown-later design other same shows own found old new fits put =
-    let there : length new.processes ≡ length old.processes = ap (λ (s : State). length s.processes) put.rest in
-    record {
-      good = fits.good;
-      shown = fits.shown;
-      value_count = fits.value_count ∙ sym put.count;
-      process_count = fits.process_count ∙ sym there;
-      values = λ object value is.
-          let fit = fits.values object value is in
-          record { there = omega (arith, fit.there, put.count); width = fit.width ∙ ap (λ (d : FlatDesign). width_in d object) (sym same) };
-      updates = λ process later is.
-          let fit = fits.updates process later is in
-          record {
-            there = omega (arith, fit.there, there);
-            due = subst (λ time. AllHold (λ (update : LaterUpdate). time ≤ update.time) (process_at fits.good process).later) (sym (ap (λ (s : State). s.time) put.rest)) fit.due;
-          };
-    }

@@ -1,17 +1,19 @@
 -- One value, or one process, more that is put.
-use Rattle.std.proofs.Common.{◌≡◌, ℕ, zero, suc, ◌+◌, ◌-◌, ◌<◌, ◌≤◌, List, [], ◌∷◌, length, set, cond, refl, sym, ap, subst, ◌∙◌, inl, inr, arith}
+use Rattle.std.proofs.Common.{◌≡◌, ℕ, zero, suc, ◌+◌, ◌-◌, ◌<◌, ◌≤◌, Bool, true, false, ◌||◌, nat_eq, List, [], ◌∷◌, ◌++◌, get_or, length, map, take, set, cond, refl, sym, ap, subst, ◌∙◌, inl, inr, arith}
 use Rattle.std.specs.Prelude.{Option, Some, None, nat_lt, slice_get, slice_set}
-use Rattle.std.proofs.lemmas.Bool.{cases_eq, cases_lt, lt-ltb, le-ltb}
-use Rattle.std.proofs.lemmas.List.{get_or-set_same, get_or-set_other, length-set}
+use Rattle.std.proofs.lemmas.Bool.{cases_eq, cases_lt, eq-eqb, ne_eqb, lt-ltb, le-ltb}
+use Rattle.std.proofs.lemmas.List.{get_or-set_same, get_or-set_other, length-set, map_push, take_more}
 use Rattle.four_value.specs.Values.{LogicValue}
-use Rattle.vf_base.specs.Lists.{change_at}
+use Rattle.vf_base.specs.Lists.{change_at, has}
 use Rattle.v_design.specs.Assignments.{value_at}
 use Rattle.v_design.specs.States.{State, ProcessState, process_at, found_or, idle_process}
 use Rattle.machine_laws.specs.Waits.{changed-elsewhere}
 use Rattle.copy_laws.specs.Differences.{own_of, Ascend}
 use Rattle.copy_state.specs.Entries.{first_from}
 use Rattle.copy_skip.specs.Entries.{next-kept, none-from}
-use Rattle.lockstep_exchange.specs.Putting.{ValuesArePut, ProcessesArePut}
+use Rattle.lockstep_index.specs.Writes.{OwnWrites, with_writes}
+use Rattle.lockstep_exchange.specs.Putting.{ValuesArePut, ProcessesArePut, WritesArePut, found_among}
+use Rattle.lockstep_exchange.proofs.Kept.{change-none}
 
 -- Numbers below one
 
@@ -53,6 +55,28 @@ below-all found entries from number at none = elim (cases_lt number from) [
   | inl less ↦ sym (below-within found from number less)
   | inr since ↦ none number (none-from from entries at number since) ∙ sym (below-past found from number since)
 ]
+
+-- Numbers of a list
+
+or-none : (b : Bool) → (b || false) ≡ b
+or-none true = refl
+or-none false = refl
+
+has-push : (numbers : List ℕ) (last other : ℕ) → has (numbers ++ last ∷ []) other ≡ (has numbers other || nat_eq last other)
+has-push [] last other = or-none (nat_eq last other)
+has-push (number ∷ numbers) last other =
+    let rest = has-push numbers last other in
+    elim (nat_eq number other) as (λ b. (b || has (numbers ++ last ∷ []) other) ≡ ((b || has numbers other) || nat_eq last other)) [ true ↦ refl | false ↦ rest ]
+
+-- of so many, and of one more
+pub has-more : {A : Type 0} (f : A → ℕ) (xs : List A) (i : ℕ) (default : A) → i < length xs → (other : ℕ) →
+    has (map f (take (i + 1) xs)) other ≡ (has (map f (take i xs)) other || nat_eq (f (get_or xs i default)) other)
+has-more f xs i default low other =
+    ap (λ l. has (map f l) other) (take_more xs i default low) ∙ ap (λ l. has l other) (map_push f (take i xs) (get_or xs i default))
+    ∙ has-push (map f (take i xs)) (f (get_or xs i default)) other
+
+pub has-one : (number other : ℕ) → has (number ∷ []) other ≡ (has [] other || nat_eq number other)
+has-one number other = or-none (nat_eq number other)
 
 -- Values
 
@@ -121,6 +145,72 @@ processes-same found more old new same put = record {
   rest = put.rest;
   count = put.count;
   processes = λ process. put.processes process ∙ sym (ap (found_or (process_at old process)) (same process));
+}
+
+-- Updates
+
+pub writes-none : (found : ℕ → Option OwnWrites) (old : State) → ((process : ℕ) → found process ≡ None) → WritesArePut found old old
+writes-none found old none = record { rest = refl; count = refl; processes = λ process. sym (ap (λ w. with_writes w (process_at old process)) (none process)) }
+
+-- updates take the place of others
+with-twice : (first : Option OwnWrites) (own : OwnWrites) (process : ProcessState) → with_writes (Some own) (with_writes first process) ≡ with_writes (Some own) process
+with-twice None own process = refl
+with-twice (Some other) own process = refl
+
+cond-none : (b : Bool) (found : Option OwnWrites) → found ≡ None → cond b found None ≡ None
+cond-none true found none = none
+cond-none false found none = refl
+
+among-none : (parts : ℕ → Bool) (writes : ℕ → Option OwnWrites) (process : ℕ) → writes process ≡ None → found_among parts writes process ≡ None
+among-none parts writes process none = cond-none (parts process) (writes process) none
+
+-- one process more
+pub writes-more : (parts more : ℕ → Bool) (writes : ℕ → Option OwnWrites) (old now later : State) (process : ℕ) → WritesArePut (found_among parts writes) old now →
+    ((own : OwnWrites) → writes process ≡ Some own → process < length now.processes) → later ≡ record now { processes = change_at now.processes process (with_writes (writes process)) } →
+    ((other : ℕ) → more other ≡ (parts other || nat_eq process other)) → WritesArePut (found_among more writes) old later
+writes-more parts more writes old now later process put low changed are =
+    let processes : later.processes ≡ change_at now.processes process (with_writes (writes process)) = ap (λ (s : State). s.processes) changed in
+    let there : (number : ℕ) → process_at later number ≡ found_or idle_process (slice_get (change_at now.processes process (with_writes (writes process))) number) =
+    λ number. ap (λ l. found_or idle_process (slice_get l number)) processes in
+    record {
+      rest = changed ∙ ap (λ (s : State). record s { processes = change_at now.processes process (with_writes (writes process)) }) put.rest ∙ (λ i. record old { processes = sym processes i });
+      count = ap length processes ∙ length-change now.processes process (with_writes (writes process)) ∙ put.count;
+      processes = λ other. there other ∙ elim (cases_eq process other) [
+        | inl same ↦
+            subst
+            (λ n. found_or idle_process (slice_get (change_at now.processes process (with_writes (writes process))) n) ≡ with_writes (found_among more writes n) (process_at old n)) same
+            (here (writes process) refl)
+        | inr differ ↦
+            changed-elsewhere idle_process now.processes process other (with_writes (writes process)) differ ∙ put.processes other
+            ∙ ap (λ (b : Bool). with_writes (cond b (writes other) None) (process_at old other)) (sym (are other ∙ elsewhere other (parts other) differ))
+      ];
+    }
+  where
+    or-true : (b : Bool) → (b || true) ≡ true
+    or-true true = refl
+    or-true false = refl
+
+    elsewhere : (other : ℕ) (b : Bool) → (process ≡ other → ⊥) → (b || nat_eq process other) ≡ b
+    elsewhere other b differ = ap (λ c. b || c) (ne_eqb process other differ) ∙ or-none b
+
+    among : found_among more writes process ≡ writes process
+    among = ap (λ (b : Bool). cond b (writes process) None) (are process ∙ ap (λ c. parts process || c) (eq-eqb process process refl) ∙ or-true (parts process))
+
+    here : (found : Option OwnWrites) → writes process ≡ found →
+        found_or idle_process (slice_get (change_at now.processes process (with_writes (writes process))) process) ≡ with_writes (found_among more writes process) (process_at old process)
+    here None none =
+        ap (λ l. found_or idle_process (slice_get l process)) (ap (λ w. change_at now.processes process (with_writes w)) none ∙ change-none now.processes process) ∙ put.processes process
+        ∙ ap (λ w. with_writes w (process_at old process)) (among-none parts writes process none ∙ sym (among-none more writes process none))
+    here (Some own) some =
+        change-here idle_process now.processes process (with_writes (writes process)) (low own some)
+        ∙ ap (λ w. with_writes w (process_at now process)) some ∙ ap (with_writes (Some own)) (put.processes process)
+        ∙ with-twice (found_among parts writes process) own (process_at old process) ∙ ap (λ w. with_writes w (process_at old process)) (sym (among ∙ some))
+
+pub writes-same : (found more : ℕ → Option OwnWrites) (old new : State) → ((process : ℕ) → more process ≡ found process) → WritesArePut found old new → WritesArePut more old new
+writes-same found more old new same put = record {
+  rest = put.rest;
+  count = put.count;
+  processes = λ process. put.processes process ∙ sym (ap (λ w. with_writes w (process_at old process)) (same process));
 }
 
 -- Measures

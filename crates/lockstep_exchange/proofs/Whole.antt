@@ -1,20 +1,22 @@
 -- The states into which a runner comes.
-use Rattle.std.proofs.Common.{◌≡◌, ℕ, List, length, refl, ap, ◌∙◌}
+use Rattle.std.proofs.Common.{◌≡◌, ℕ, Bool, true, false, cond, ◌||◌, List, length, refl, sym, ap, ◌∙◌}
 use Rattle.std.specs.Prelude.{Option, Some, None}
 use Rattle.std.specs.Option.{option_map}
 use Rattle.four_value.specs.Values.{LogicValue}
+use Rattle.vf_base.specs.Lists.{has}
+use Rattle.vf_base.specs.declared.ids.ProcId.{ProcId}
 use Rattle.v_design.specs.Assignments.{value_at}
 use Rattle.v_design.specs.Designs.{FlatDesign}
-use Rattle.v_design.specs.States.{State, NodeState, ProcessState, LaterUpdate, process_at, node_at, found_or}
+use Rattle.v_design.specs.States.{State, ProcessState, process_at, node_at, found_or}
 use Rattle.block_changes.specs.Changes.{WithinIsOne}
 use Rattle.copy_laws.specs.Differences.{own_of}
 use Rattle.copy_laws.specs.Moves.{Within, IsWithin}
 use Rattle.lockstep_index.specs.Writes.{OwnWrites, with_writes}
-use Rattle.lockstep_slots.specs.Kept.{kept_within}
+use Rattle.lockstep_copy.specs.lockstep_slots.Kept.{kept_within}
 use Rattle.lockstep_copy.specs.Kept.{kept_by}
 use Rattle.lockstep_copy.specs.declared.own.LockstepCopy.{LockstepCopy}
-use Rattle.lockstep_exchange.specs.Putting.{ValuesArePut, ProcessesArePut, values_restored, writes_restored, yet_to_write}
-use Rattle.lockstep_exchange.specs.Exchange.{IsButFor, MayPutIn, MayTakeOut}
+use Rattle.lockstep_exchange.specs.Putting.{ValuesArePut, ProcessesArePut, WritesArePut, found_among, lane_numbers, values_restored}
+use Rattle.lockstep_exchange.specs.Exchange.{ArePutFor, IsButFor, MayPutIn, MayTakeOut, acts_among}
 
 -- Parts
 
@@ -63,22 +65,58 @@ module _ (values : ℕ → Option LogicValue) (processes : ℕ → Option Proces
 
 -- What is kept is put in
 
-pub put-in : WithinIsOne → (design : FlatDesign) (own : LockstepCopy) (good middle new : State) (of : MayPutIn design own good) → ValuesArePut (kept_within (kept_by own) good).values good middle →
-    ProcessesArePut (kept_within (kept_by own) middle).processes middle new → new ≡ of.faulty
-put-in one design own good middle new of first second =
-    one (kept_within (kept_by own) good) good new of.faulty
-    (record {
-      value_count = put-value_count _ _ good middle new first second;
-      node_count = ap length (put-nodes _ _ good middle new first second);
-      process_count = put-process_count _ _ good middle new first second;
-      values = put-value _ _ good middle new first second;
-      nodes = λ number. ap (λ (s : State). node_at s number) second.rest ∙ ap (λ (s : State). node_at s number) first.rest;
+kept-process : (found : Option OwnWrites) (process : ProcessState) → found_or process (option_map (λ (w : OwnWrites). with_writes (Some w) process) found) ≡ with_writes found process
+kept-process None process = refl
+kept-process (Some own) process = refl
+
+either-put : (b c : Bool) (found : Option OwnWrites) (process : ProcessState) →
+    with_writes (cond c found None) (with_writes (cond b found None) process) ≡ cond (b || c) (with_writes found process) process
+either-put true true None process = refl
+either-put true true (Some own) process = refl
+either-put true false found process = refl
+either-put false true found process = refl
+either-put false false found process = refl
+
+pub put-in : WithinIsOne → (design : FlatDesign) (own : LockstepCopy) (acted : List ℕ) (lane : Option ProcId) (good middle some new : State) (of : MayPutIn design own good) →
+    ValuesArePut (kept_within (kept_by own) good).values good middle → WritesArePut (found_among (has acted) (kept_by own).writes) middle some →
+    WritesArePut (found_among (has (lane_numbers lane)) (kept_by own).writes) some new → ArePutFor (acts_among acted lane) good of.faulty new
+put-in one design own acted lane good middle some new of first second third =
+    let writes = (kept_by own).writes in
+    let within = of.makes.lockstep.within in
+    let count : length new.processes ≡ length good.processes = third.count ∙ second.count ∙ ap (λ (s : State). length s.processes) first.rest in
+    let apart : Within = record { values = (kept_within (kept_by own) good).values; nodes = λ number. None; processes = λ process. Some (process_at new process) } in
+    let here : IsWithin apart good new = record {
+      value_count = ap (λ (s : State). length s.values) third.rest ∙ ap (λ (s : State). length s.values) second.rest ∙ first.count;
+      node_count = ap (λ (s : State). length s.nodes) third.rest ∙ ap (λ (s : State). length s.nodes) second.rest ∙ ap (λ (s : State). length s.nodes) first.rest;
+      process_count = count;
+      values = λ object.
+          ap (λ (s : State). value_at s.values object) third.rest ∙ ap (λ (s : State). value_at s.values object) second.rest ∙ first.values object;
+      nodes = λ number.
+          ap (λ (s : State). node_at s number) third.rest ∙ ap (λ (s : State). node_at s number) second.rest ∙ ap (λ (s : State). node_at s number) first.rest;
+      processes = λ process. refl;
+    } in
+    let there : IsWithin apart good (record of.faulty { processes = new.processes }) = record {
+      value_count = within.value_count;
+      node_count = within.node_count;
+      process_count = count;
+      values = within.values;
+      nodes = within.nodes;
+      processes = λ process. refl;
+    } in
+    let time : new.time ≡ of.faulty.time =
+    ap (λ (s : State). s.time) third.rest ∙ ap (λ (s : State). s.time) second.rest ∙ ap (λ (s : State). s.time) first.rest ∙ of.makes.lockstep.time in
+    record {
+      rest = one apart good new (record of.faulty { processes = new.processes }) here there time;
+      count = count;
       processes = λ process.
-          put-process _ _ good middle new first second process
-          ∙ ap (λ (p : ProcessState). found_or (process_at good process) (option_map (λ (w : OwnWrites). with_writes (Some w) p) ((kept_by own).writes process)))
-          (middle-process _ _ good middle new first second process);
-    })
-    of.makes.lockstep.within (put-time _ _ good middle new first second ∙ of.makes.lockstep.time)
+          third.processes process
+          ∙ ap (λ (p : ProcessState). with_writes (cond (has (lane_numbers lane) process) (writes process) None) p)
+          (second.processes process
+          ∙ ap (λ (s : State). with_writes (cond (has acted process) (writes process) None) (process_at s process)) first.rest)
+          ∙ either-put (has acted process) (has (lane_numbers lane) process) (writes process) (process_at good process)
+          ∙ ap (λ (p : ProcessState). cond (acts_among acted lane process) p (process_at good process))
+          (sym (within.processes process ∙ kept-process (writes process) (process_at good process)));
+    }
 
 -- and taken out
 
@@ -90,29 +128,16 @@ restored-value own good now is object = go (own_of own.copy.values object) refl
     go None e = ap (λ (o : Option LogicValue). found_or (value_at now.values object) (option_map (λ (kept : LogicValue). value_at good.values object) o)) e ∙ is.values object e
     go (Some value) e = ap (λ (o : Option LogicValue). found_or (value_at now.values object) (option_map (λ (kept : LogicValue). value_at good.values object) o)) e
 
-restored-process : (own : LockstepCopy) (good now : State) → IsButFor own good now → (process : ℕ) (one : ProcessState) → one ≡ process_at now process →
-    found_or one (option_map (λ (kept : List LaterUpdate). with_writes (Some (yet_to_write (process_at good process))) one) (own_of own.copy.updates process)) ≡ process_at good process
-restored-process own good now is process one same = go (own_of own.copy.updates process) refl
-  where
-    go : (found : Option (List LaterUpdate)) → own_of own.copy.updates process ≡ found →
-        found_or one (option_map (λ (kept : List LaterUpdate). with_writes (Some (yet_to_write (process_at good process))) one) (own_of own.copy.updates process)) ≡ process_at good process
-    go None e = ap (λ (o : Option (List LaterUpdate)). found_or one (option_map (λ (kept : List LaterUpdate). with_writes (Some (yet_to_write (process_at good process))) one) o)) e ∙ same
-        ∙ is.processes process e
-    go (Some later) e = ap (λ (o : Option (List LaterUpdate)). found_or one (option_map (λ (kept : List LaterUpdate). with_writes (Some (yet_to_write (process_at good process))) one) o)) e
-        ∙ ap (λ activity. record (process_at good process) { activity = activity }) (ap (λ (p : ProcessState). p.activity) same ∙ is.does process later e)
-
-pub taken-out : WithinIsOne → (design : FlatDesign) (shows : State → Type 0) (own : LockstepCopy) (now middle new : State) (of : MayTakeOut design shows own now) →
-    ValuesArePut (values_restored own of.good) now middle → ProcessesArePut (writes_restored own of.good middle) middle new → new ≡ of.good
-taken-out one design shows own now middle new of first second =
+pub taken-out : WithinIsOne → (design : FlatDesign) (shows : State → Type 0) (own : LockstepCopy) (now new : State) (of : MayTakeOut design shows own now) →
+    ValuesArePut (values_restored own of.good) now new → new ≡ of.good
+taken-out one design shows own now new of put =
     one same_within of.good new of.good
     (record {
-      value_count = put-value_count _ _ now middle new first second ∙ of.but_for.value_count;
-      node_count = ap length (put-nodes _ _ now middle new first second) ∙ of.but_for.node_count;
-      process_count = put-process_count _ _ now middle new first second ∙ of.but_for.process_count;
-      values = λ object. put-value _ _ now middle new first second object ∙ restored-value own of.good now of.but_for object;
-      nodes = λ number.
-          ap (λ (l : List NodeState). node_at (record of.good { nodes = l }) number) (put-nodes _ _ now middle new first second) ∙ of.but_for.nodes number;
-      processes = λ process.
-          second.processes process ∙ restored-process own of.good now of.but_for process (process_at middle process) (middle-process _ _ now middle new first second process);
+      value_count = put.count ∙ of.but_for.value_count;
+      node_count = ap (λ (s : State). length s.nodes) put.rest ∙ of.but_for.node_count;
+      process_count = ap (λ (s : State). length s.processes) put.rest ∙ of.but_for.process_count;
+      values = λ object. put.values object ∙ restored-value own of.good now of.but_for object;
+      nodes = λ number. ap (λ (s : State). node_at s number) put.rest ∙ of.but_for.nodes number;
+      processes = λ process. ap (λ (s : State). process_at s process) put.rest ∙ of.but_for.processes process;
     })
-    (same-state of.good) (put-time _ _ now middle new first second ∙ of.but_for.time_is)
+    (same-state of.good) (ap (λ (s : State). s.time) put.rest ∙ of.but_for.time_is)

@@ -1,8 +1,10 @@
 -- Values, and processes, that are put into a state (nothing of the language).
-use Rattle.std.specs.Prelude.{◌≡◌, ℕ, ◌<◌, ◌≤◌, length, List, Option, Some}
+use Rattle.std.specs.Prelude.{◌≡◌, ℕ, ◌<◌, ◌≤◌, Bool, cond, length, List, [], ◌∷◌, Option, Some, None}
 use Rattle.std.specs.Option.{option_map}
 use Rattle.four_value.specs.Values.{LogicValue}
-use Rattle.vf_base.specs.Lists.{AllHold, has}
+use Rattle.vf_base.specs.Base.{process_number}
+use Rattle.vf_base.specs.Lists.{AllHold}
+use Rattle.vf_base.specs.declared.ids.ProcId.{ProcId}
 use Rattle.v_design.specs.Assignments.{value_at}
 use Rattle.v_design.specs.Designs.{FlatDesign, width_in}
 use Rattle.v_design.specs.States.{State, ProcessState, LaterUpdate, process_at, found_or}
@@ -24,19 +26,26 @@ pub record ProcessesArePut (found : ℕ → Option ProcessState) (old new : Stat
   pub count : length new.processes ≡ length old.processes
   pub processes : (process : ℕ) → process_at new process ≡ found_or (process_at old process) (found process)
 
+-- processes for which updates are found come to have these yet to write, and nothing else changes
+pub record WritesArePut (found : ℕ → Option OwnWrites) (old new : State) : Type 0 where
+  pub rest : new ≡ record old { processes = new.processes }
+  pub count : length new.processes ≡ length old.processes
+  pub processes : (process : ℕ) → process_at new process ≡ with_writes (found process) (process_at old process)
+
 -- What is found
 
--- what a process has yet to write
-abbrev pub yet_to_write : ProcessState → OwnWrites
-yet_to_write process = record { later = process.later; lane = process.lane }
+-- what is found under some numbers
+abbrev pub found_among : {A : Type 0} → (ℕ → Bool) → (ℕ → Option A) → ℕ → Option A
+found_among parts found number = cond (parts number) (found number) None
 
--- the objects of which a value is kept as a state has them; and the processes of which updates are kept, with what they have yet to write in a state
+-- the process whose lane took a step, if one did
+abbrev pub lane_numbers : Option ProcId → List ℕ
+lane_numbers None = []
+lane_numbers (Some process) = process_number process ∷ []
+
+-- the objects of which a value is kept as a state has them
 abbrev pub values_restored : LockstepCopy → State → ℕ → Option LogicValue
 values_restored own state object = option_map (λ (kept : LogicValue). value_at state.values object) (own_of own.copy.values object)
-
-abbrev pub writes_restored : LockstepCopy → State → State → ℕ → Option ProcessState
-writes_restored own state now process =
-    option_map (λ (kept : List LaterUpdate). with_writes (Some (yet_to_write (process_at state process))) (process_at now process)) (own_of own.copy.updates process)
 
 -- What may be put
 
@@ -55,11 +64,9 @@ pub record KeptFits (design : FlatDesign) (state : State) (own : LockstepCopy) :
   pub values : (object : ℕ) (value : LogicValue) → own_of own.copy.values object ≡ Some value → FitsObject design state object value
   pub updates : (process : ℕ) (later : List LaterUpdate) → own_of own.copy.updates process ≡ Some later → FitsProcess state process later
 
--- in place of what is kept what a state has that is shown fits another one
+-- in place of the values that are kept those of a state that is shown fit another one
 pub record ShownFits (design : FlatDesign) (shows : State → Type 0) (now : State) (own : LockstepCopy) : Type 0 where
   pub good : State
   pub shown : shows good
   pub value_count : length good.values ≡ length now.values
-  pub process_count : length good.processes ≡ length now.processes
   pub values : (object : ℕ) (value : LogicValue) → own_of own.copy.values object ≡ Some value → FitsObject design now object (value_at good.values object)
-  pub updates : (process : ℕ) (later : List LaterUpdate) → own_of own.copy.updates process ≡ Some later → FitsProcess now process (process_at good process).later

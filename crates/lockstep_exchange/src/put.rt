@@ -2,20 +2,20 @@
 
 ghost use Rattle.std.specs.Prelude.{◌≡◌, map, [], Some, OnOk};
 ghost use Rattle.vf_base.specs.Base.{process_number};
-ghost use Rattle.vf_base.specs.Lists.{change_at};
+ghost use Rattle.vf_base.specs.Lists.{change_at, has};
 ghost use Rattle.v_design.specs.Plain.{fault_of, update_of};
 ghost use Rattle.v_design.specs.States.{found_or};
 ghost use Rattle.copy_laws.specs.Differences.{own_of};
 ghost use Rattle.lockstep_index.specs.Writes.{with_writes};
-ghost use Rattle.lockstep_slots.specs.Kept.{kept_within};
+ghost use Rattle.lockstep_copy.specs.lockstep_slots.Kept.{kept_within};
 ghost use Rattle.lockstep_copy.specs.Kept.{kept_by};
 ghost use Rattle.block_events.specs.Runners.{IsWhole, machine_of, state_of};
-ghost use Rattle.lockstep_exchange.specs.Putting.{KeptFits, ProcessesArePut, ValuesArePut};
-ghost use Rattle.lockstep_exchange.specs.Exchange.{MayPutIn};
+ghost use Rattle.lockstep_exchange.specs.Putting.{KeptFits, ValuesArePut, WritesArePut, found_among, lane_numbers};
+ghost use Rattle.lockstep_exchange.specs.Exchange.{ArePutFor, MayPutIn, acts_among};
 
 use block_events::Runner;
 use lockstep_copy::LockstepCopy;
-use v_design::{Fault, Update, Values};
+use v_design::{Fault, Update};
 use vf_base::{NoMemory, ObjectId, ProcId};
 
 /// Each object of which a value is kept comes to hold it.
@@ -27,11 +27,10 @@ fn put_values(runner: &mut Runner, own: &LockstepCopy)
     ensures whole { IsWhole runner.new }
 {
     own.copy.ascending();
-    let mut next = own.copy.next_value(ObjectId(0));
-    'objects: while let Some(object) = next {
-        let good = runner.value(object);
-        runner.put_value(object, own.copy.value(object, good));
-        next = own.copy.next_value(ObjectId(object.0 + 1));
+    let mut next = own.copy.next_held(ObjectId(0), 0);
+    'objects: while let Some(held) = next {
+        runner.put_value(held.object, held.value);
+        next = own.copy.next_held(ObjectId(held.object.0 + 1), held.hint);
     }
 }
 
@@ -62,39 +61,68 @@ fn put_writes(runner: &mut Runner, own: &LockstepCopy, process: ProcId) -> Resul
     Ok(())
 }
 
-/// The same of each process of which updates are kept.
-fn put_all_writes(runner: &mut Runner, own: &LockstepCopy) -> Result<(), NoMemory>
+/// The same of each of some processes.
+fn put_some_writes(
+    runner: &mut Runner,
+    own: &LockstepCopy,
+    processes: &[ProcId],
+) -> Result<(), NoMemory>
     requires whole { IsWhole runner.old }
     requires fits { KeptFits (machine_of runner.old).design (state_of runner.old) own.now }
     ensures machine { OnOk result (machine_of runner.new ≡ machine_of runner.old) }
-    ensures state { OnOk result (ProcessesArePut (kept_within (kept_by own.now) (state_of runner.old)).processes (state_of runner.old) (state_of runner.new)) }
+    ensures state { OnOk result (WritesArePut (found_among (has (map process_number processes.now)) (kept_by own.now).writes) (state_of runner.old) (state_of runner.new)) }
     ensures whole { OnOk result (IsWhole runner.new) }
 {
-    own.copy.ascending();
-    let mut next = own.copy.next_updates(ProcId(0));
-    'processes: while let Some(process) = next {
-        put_writes(runner, own, process)?;
-        next = own.copy.next_updates(ProcId(process.0 + 1));
+    'processes: for place in 0..processes.len() {
+        put_writes(runner, own, processes[place])?;
     }
     Ok(())
 }
 
-/// A runner in the good machine's state becomes the faulty machine of a fault, in the state that is the good one with what is kept.
+/// The same of one process, if there is one.
+fn put_lane_writes(
+    runner: &mut Runner,
+    own: &LockstepCopy,
+    lane: Option<ProcId>,
+) -> Result<(), NoMemory>
+    requires whole { IsWhole runner.old }
+    requires fits { KeptFits (machine_of runner.old).design (state_of runner.old) own.now }
+    ensures machine { OnOk result (machine_of runner.new ≡ machine_of runner.old) }
+    ensures state { OnOk result (WritesArePut (found_among (has (lane_numbers lane)) (kept_by own.now).writes) (state_of runner.old) (state_of runner.new)) }
+    ensures whole { OnOk result (IsWhole runner.new) }
+{
+    let Some(process) = lane else {
+        return Ok(());
+    };
+    put_writes(runner, own, process)?;
+    Ok(())
+}
+
+/// A runner in the good machine's state becomes the faulty machine of a fault: it comes to hold the values that are kept, and some processes, and the one whose lane takes a step, if one
+/// does, come to have the updates that are kept of them. What other processes have yet to write stays the good machine's: no event sees it.
 ///
 /// # Errors
 ///
 /// Want of memory. The runner isn't to be used again then.
-pub fn put_in(runner: &mut Runner, own: &LockstepCopy, fault: Fault) -> Result<(), NoMemory>
+pub fn put_in(
+    runner: &mut Runner,
+    own: &LockstepCopy,
+    fault: Fault,
+    acted: &[ProcId],
+    lane: Option<ProcId>,
+) -> Result<(), NoMemory>
     requires whole { IsWhole runner.old }
     requires put { MayPutIn (machine_of runner.old).design own.now (state_of runner.old) }
     ensures machine { OnOk result (machine_of runner.new ≡ record (machine_of runner.old) { fault = Some (fault_of fault) }) }
-    ensures state { OnOk result ((of : MayPutIn (machine_of runner.old).design own.now (state_of runner.old)) → state_of runner.new ≡ of.faulty) }
+    ensures state { OnOk result ((of : MayPutIn (machine_of runner.old).design own.now (state_of runner.old)) →
+        ArePutFor (acts_among (map process_number acted.now) lane) (state_of runner.old) of.faulty (state_of runner.new)) }
     ensures whole { OnOk result (IsWhole runner.new) }
 {
     block_changes::differences_are_one();
     runner.processes_may_stand();
     put_values(runner, own);
-    put_all_writes(runner, own)?;
+    put_some_writes(runner, own, acted)?;
+    put_lane_writes(runner, own, lane)?;
     runner.set_fault(Some(fault));
     Ok(())
 }

@@ -28,17 +28,17 @@ use Rattle.lockstep_waits.specs.Awaited.{is_awaited}
 use Rattle.lockstep_waits.specs.Texts.{WaitsGoOn}
 use Rattle.sole_touches.specs.Counts.{NoneAreCounted, PairsAreCounted}
 use Rattle.sole_touches.specs.Unawaited.{IsUnawaited, reads_object, WritesAloneTouch, SoleTouchesAreFree, UnreadNetsAreFree}
-use Rattle.lockstep_slots.specs.Pairs.{LeavesNoConflict}
-use Rattle.lockstep_slots.specs.Places.{Place, behind_events}
-use Rattle.window_places.specs.Windows.{PlacesInWindows}
-use Rattle.window_tests.specs.Between.{OnlyWithin}
-use Rattle.window_tests.specs.Stretches.{StretchesPassNone, PairsAreTold}
+use Rattle.phase_reach.specs.lockstep_slots.Pairs.{LeavesNoConflict}
+use Rattle.phase_reach.specs.lockstep_slots.Places.{Place, behind_events}
+use Rattle.phase_reach.specs.window_places.Windows.{PlacesInWindows}
+use Rattle.phase_reach.specs.window_tests.Between.{OnlyWithin}
+use Rattle.phase_reach.specs.window_tests.Stretches.{StretchesPassNone, PairsAreTold}
 use Rattle.race_notes.specs.declared.note.ObjectNote.{ObjectNote}
 use Rattle.race_notes.specs.Notes.{OwnBlock, NoneSeen, NoneSees, is_of, reads, writes, touches, writes_beside, empty_note, note_at, NotesKept, IsSince, AreNotesOf}
 use Rattle.race_notes.proofs.Lists.{all-weaker}
-use Rattle.lockstep_notes.specs.Notes.{own_blocks, some_reaches, marks_of, phase_place}
-use Rattle.lockstep_notes.proofs.Changes.{any-has, all-rest}
-use Rattle.lockstep_notes.proofs.Pairs.{blocks-joined}
+use Rattle.phase_reach.specs.lockstep_notes.Notes.{own_blocks, some_reaches, marks_of, phase_place}
+use Rattle.phase_reach.proofs.lockstep_notes.Changes.{any-has, all-rest}
+use Rattle.phase_reach.proofs.lockstep_notes.Pairs.{blocks-joined}
 use Rattle.phase_reach.specs.Phases.{NotedPhase}
 use Rattle.lockstep_filter.specs.Phases.{IsPhaseNoted}
 use Rattle.lockstep_filter.specs.Free.{IsCovered, IsUnreadNet, IsNeverWritten, IsTouchedOnce, IsMetAlone, IsUnreachedFrom, IsUnreachedNet, IsTame, IsFreeHere}

@@ -15,11 +15,11 @@ use Rattle.block_told.specs.Tells.{Seen, access_seen}
 use Rattle.free_objects.specs.MetObjects.{UnlikesLeave}
 use Rattle.lockstep_race.specs.Alike.{AreAlike}
 use Rattle.settled_objects.specs.Settled.{UnlikesPassNone}
-use Rattle.window_tests.specs.Stretches.{StretchesPassNone, OwnBlocksPassNone, own_spans}
+use Rattle.phase_reach.specs.window_tests.Stretches.{StretchesPassNone, OwnBlocksPassNone, own_spans}
 use Rattle.sole_touches.specs.Counts.{count_passing, count_in_pairs, NoneAreCounted}
 use Rattle.race_notes.specs.declared.note.OwnSpan.{OwnSpan}
 use Rattle.race_notes.specs.Notes.{OwnBlock, NoneSeen, NoneSees, count_seen, is_of, span_of}
-use Rattle.lockstep_notes.specs.Notes.{own_blocks}
+use Rattle.phase_reach.specs.lockstep_notes.Notes.{own_blocks}
 
 -- What none of the told accesses does
 

@@ -11,15 +11,15 @@ use Rattle.trace_window.specs.Moments.{window_events}
 use Rattle.trace_window.specs.Touched.{touched_at, written_at}
 use Rattle.block_filter.specs.Blocks.{BlockPair, Alike, Unlike, good_phase, all_accesses}
 use Rattle.free_objects.specs.Stretches.{NonePasses}
-use Rattle.lockstep_slots.specs.Places.{Place, state_there, behind_events}
-use Rattle.window_places.specs.Windows.{PlacesInWindows}
-use Rattle.window_tests.specs.Between.{OnlyWithin, read_at}
-use Rattle.window_tests.specs.Stretches.{IsStretchAt, IsOnlyWrittenTo, StretchesHold, StretchesPassNone, IsInStretch, PairsAreTold}
+use Rattle.phase_reach.specs.lockstep_slots.Places.{Place, state_there, behind_events}
+use Rattle.phase_reach.specs.window_places.Windows.{PlacesInWindows}
+use Rattle.phase_reach.specs.window_tests.Between.{OnlyWithin, read_at}
+use Rattle.phase_reach.specs.window_tests.Stretches.{IsStretchAt, IsOnlyWrittenTo, StretchesHold, StretchesPassNone, IsInStretch, PairsAreTold}
 use Rattle.sole_touches.specs.Unawaited.{reads_object, is_read, WritesAloneTouch}
 use Rattle.race_notes.specs.declared.note.OwnSpan.{OwnSpan}
 use Rattle.race_notes.specs.Notes.{NotesKept, is_reading, reads, writes, touches, span_of}
 use Rattle.race_notes.proofs.Lists.{all-weaker}
-use Rattle.lockstep_notes.specs.Notes.{own_blocks, phase_place, NotesTell}
+use Rattle.phase_reach.specs.lockstep_notes.Notes.{own_blocks, phase_place, NotesTell}
 use Rattle.lockstep_filter.specs.Free.{IsCovered}
 use Rattle.lockstep_filter.proofs.OwnBlocks.{outside-covered, phases-joined}
 

@@ -6,10 +6,10 @@ use Rattle.v_design.specs.Designs.{good_machine}
 use Rattle.copy_laws.specs.Filter.{IsIn}
 use Rattle.trace_window.specs.Touched.{written_at}
 use Rattle.lockstep_waits.specs.Awaited.{is_awaited}
-use Rattle.window_tests.specs.Between.{OnlyWithin, read_at}
+use Rattle.phase_reach.specs.window_tests.Between.{OnlyWithin, read_at}
 use Rattle.race_notes.specs.declared.note.OwnSpan.{OwnSpan}
 use Rattle.race_notes.specs.Notes.{note_at}
-use Rattle.lockstep_notes.specs.Notes.{some_reaches}
+use Rattle.phase_reach.specs.lockstep_notes.Notes.{some_reaches}
 use Rattle.phase_reach.specs.Phases.{NotedPhase, events_of}
 
 -- a moment lies in one of some blocks of the good machine

@@ -8,11 +8,11 @@ use Rattle.wait_index.specs.Waits.{WaitsAreOfBodies}
 use Rattle.block_filter.specs.Likes.{Marks}
 use Rattle.block_filter.specs.Blocks.{BlockPair}
 use Rattle.lockstep_race.specs.Alike.{AreAlike}
-use Rattle.lockstep_slots.specs.Kept.{LockstepKept}
-use Rattle.lockstep_slots.specs.Places.{Place}
-use Rattle.lockstep_slots.specs.Standing.{StandsInLockstep}
+use Rattle.phase_reach.specs.lockstep_slots.Kept.{LockstepKept}
+use Rattle.phase_reach.specs.lockstep_slots.Places.{Place}
+use Rattle.phase_reach.specs.lockstep_slots.Standing.{StandsInLockstep}
 use Rattle.race_notes.specs.Notes.{NotesKept}
-use Rattle.lockstep_notes.specs.Notes.{NotesTell}
+use Rattle.phase_reach.specs.lockstep_notes.Notes.{NotesTell}
 
 -- both machines stand in lockstep at the end of a phase, in which the stretches that both took do alike; the faulty machine's processes wait on objects of their texts as its slot begins; and the notes
 -- are of the phase's own blocks

@@ -4,16 +4,15 @@ ghost use Rattle.std.specs.Prelude.{◌≡◌, List, true};
 ghost use Rattle.v_design.specs.Designs.{StuckAt};
 ghost use Rattle.machine_laws.specs.SlotLoop.{Moment};
 ghost use Rattle.block_filter.specs.Blocks.{BlockPair};
-ghost use Rattle.lockstep_slots.specs.Pairs.{LeavesNoConflict};
-ghost use Rattle.lockstep_slots.specs.Places.{Place};
-ghost use Rattle.lockstep_notes.specs.Notes.{marks_of};
+ghost use Rattle.phase_reach.specs.lockstep_slots.Pairs.{LeavesNoConflict};
+ghost use Rattle.phase_reach.specs.lockstep_slots.Places.{Place};
+ghost use Rattle.phase_reach.specs.lockstep_notes.Notes.{marks_of};
 ghost use Rattle.lockstep_filter.specs.Phases.{IsPhaseNoted};
 
 use crate::objects::{noted_are_free, reached_are_unread, some_is_read};
 use crate::room::FilterRoom;
 use good_trace::{Setup, TraceWindow};
-use lockstep_notes::object_count;
-use phase_reach::{reach_all, reach_phase};
+use phase_reach::{object_count, reach_all, reach_phase};
 use race_notes::RaceNotes;
 use v_design::World;
 
@@ -39,8 +38,8 @@ pub fn is_free<N: World>(
     sole_touches::accesses_are_counted();
     sole_touches::writers_dont_read();
     sole_touches::unawaited_objects();
-    window_places::places_in_windows();
-    window_tests::pairs_are_told();
+    phase_reach::places_in_windows();
+    phase_reach::pairs_are_told();
     let count = object_count(setup);
     if !reach_all(&mut room.own, notes.changed(), count) {
         return false;

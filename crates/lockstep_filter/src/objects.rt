@@ -12,14 +12,12 @@ ghost use Rattle.phase_reach.specs.Phases.{noted_phase};
 
 use crate::spans::NotedSpans;
 use good_trace::{Setup, TraceWindow};
-use lockstep_notes::object_count;
 use lockstep_waits::AwaitedObjects;
-use phase_reach::reach_between;
+use phase_reach::{is_read, is_written, object_count, reach_between};
 use race_notes::RaceNotes;
 use reach_search::Reached;
 use v_design::{Design, ObjectKind, World};
 use vf_base::ObjectId;
-use window_tests::{is_read, is_written};
 
 /// Whether a kind is that of net pieces.
 fn is_net_kind(kind: ObjectKind) -> bool

@@ -1,7 +1,7 @@
 // The moments that noted blocks of the good machine cover.
 
+use phase_reach::Spans;
 use race_notes::RaceNotes;
-use window_tests::Spans;
 
 /// The moments of the good machine's blocks beside those that are noted: what stretches do is asked without them.
 #[derive(Clone, Copy)]

@@ -9,9 +9,9 @@ use Rattle.order_laws.proofs.ToFront.{happened-append}
 use Rattle.machine_laws.specs.SlotLoop.{Moment, after_event, after_events}
 use Rattle.block_filter.specs.Blocks.{BlockPair, Alike, Unlike, good_events, faulty_events, good_phase, faulty_phase, all_accesses}
 use Rattle.block_told.specs.Tells.{access_seen}
-use Rattle.lockstep_slots.specs.Pairs.{unlike_pair}
-use Rattle.lockstep_slots.specs.Places.{Place, behind_events}
-use Rattle.window_places.specs.Windows.{IsAtMoment}
+use Rattle.window_tests.specs.lockstep_slots.Pairs.{unlike_pair}
+use Rattle.window_tests.specs.lockstep_slots.Places.{Place, behind_events}
+use Rattle.window_tests.specs.window_places.Windows.{IsAtMoment}
 use Rattle.race_notes.specs.Notes.{OwnBlock, NotesKept, empty_note, note_at, HasNoNotes, IsNoteOf, AreNotesOf}
 use Rattle.lockstep_notes.specs.Notes.{own_blocks, phase_place, NotesTell}
 use Rattle.lockstep_notes.specs.Beside.{BeginAlike}

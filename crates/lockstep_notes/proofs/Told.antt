@@ -32,8 +32,8 @@ use Rattle.lockstep_waits.specs.Begun.{WaitsBehind, BeginsToWait, LastWaitsAreBe
 use Rattle.window_tests.specs.Between.{SomeMoment, read_at}
 use Rattle.window_tests.specs.Stretches.{StretchesAreTold}
 use Rattle.lockstep_race.specs.Reads.{ReadsObject}
-use Rattle.lockstep_slots.specs.Places.{Place, state_there}
-use Rattle.window_places.specs.Windows.{seen_left, IsAtMoment}
+use Rattle.window_tests.specs.lockstep_slots.Places.{Place, state_there}
+use Rattle.window_tests.specs.window_places.Windows.{seen_left, IsAtMoment}
 use Rattle.race_notes.proofs.Noted.{or-left, or-right}
 use Rattle.lockstep_notes.specs.Likes.{LikeSeen, IsBlockBetween, HasLikeBetween, IsWaiting}
 

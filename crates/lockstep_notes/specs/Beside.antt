@@ -13,8 +13,8 @@ use Rattle.block_filter.specs.Likes.{Marks}
 use Rattle.block_filter.specs.Blocks.{all_accesses, ReachesSuspects, IsSuspectOrMet}
 use Rattle.trace_window.specs.Moments.{seen_from}
 use Rattle.trace_window.specs.Touched.{event_writes}
-use Rattle.lockstep_slots.specs.Places.{Place, state_there}
-use Rattle.window_places.specs.Windows.{IsAtMoment}
+use Rattle.window_tests.specs.lockstep_slots.Places.{Place, state_there}
+use Rattle.window_tests.specs.window_places.Windows.{IsAtMoment}
 
 -- blocks of both machines begin with one event
 pub record BeginAlike (ones others : List Event) : Type 0 where

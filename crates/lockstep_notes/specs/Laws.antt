@@ -4,8 +4,8 @@ use Rattle.v_design.specs.Designs.{FlatDesign, StuckAt, TestPlan, faulty_machine
 use Rattle.v_design.specs.States.{Event}
 use Rattle.machine_laws.specs.SlotLoop.{Moment, after_events}
 use Rattle.block_filter.specs.Blocks.{BlockPair, Alike}
-use Rattle.lockstep_slots.specs.Places.{Place, behind_events}
-use Rattle.window_places.specs.Windows.{IsAtMoment}
+use Rattle.window_tests.specs.lockstep_slots.Places.{Place, behind_events}
+use Rattle.window_tests.specs.window_places.Windows.{IsAtMoment}
 use Rattle.race_notes.specs.Notes.{NotesKept, HasNoNotes}
 use Rattle.lockstep_notes.specs.Notes.{NotesTell}
 

@@ -13,8 +13,8 @@ use Rattle.block_filter.specs.Blocks.{all_accesses}
 use Rattle.block_changes.specs.Changes.{steps_lane}
 use Rattle.block_told.specs.Tells.{Seen}
 use Rattle.window_tests.specs.Between.{SomeMoment}
-use Rattle.lockstep_slots.specs.Places.{Place, state_there}
-use Rattle.window_places.specs.Windows.{IsAtMoment}
+use Rattle.window_tests.specs.lockstep_slots.Places.{Place, state_there}
+use Rattle.window_tests.specs.window_places.Windows.{IsAtMoment}
 
 -- some access does the same to the same object
 pub record LikeSeen (ones : List ObjectAccess) (seen : Seen) : Type 0 where

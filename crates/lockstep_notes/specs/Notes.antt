@@ -11,8 +11,8 @@ use Rattle.machine_laws.specs.SlotLoop.{Moment}
 use Rattle.block_filter.specs.Likes.{Marks}
 use Rattle.block_filter.specs.Blocks.{BlockPair, Alike, Unlike, good_phase, faulty_phase, all_accesses}
 use Rattle.block_told.specs.Tells.{access_seen}
-use Rattle.lockstep_slots.specs.Places.{Place}
-use Rattle.window_places.specs.Windows.{IsAtMoment}
+use Rattle.window_tests.specs.lockstep_slots.Places.{Place}
+use Rattle.window_tests.specs.window_places.Windows.{IsAtMoment}
 use Rattle.race_notes.specs.Notes.{OwnBlock, note_at, NotesKept, AreNotesOf}
 
 -- the faulty machine's own blocks among some pairs, the first of which begins with a moment of the good machine

@@ -13,3 +13,6 @@ mod standing;
 pub use block::{note_block, notes_go_on};
 pub use likes::object_count;
 pub use standing::Standing;
+pub use window_tests::{
+    Spans, is_read, is_written, pairs_are_told, places_in_windows, slots_in_lockstep,
+};

@@ -1,7 +1,10 @@
-pub use Rattle.lockstep_turn.proofs as lockstep_turn
 pub use Rattle.lockstep_turn.proofs.phase_faults as phase_faults
 pub use Rattle.lockstep_turn.proofs.slot_laws as slot_laws
 pub use Rattle.lockstep_turn.proofs.lockstep_block as lockstep_block
+pub use Rattle.lockstep_turn.proofs.lockstep_room as lockstep_room
+pub use Rattle.lockstep_turn.proofs.copy_skip as copy_skip
 pub use Rattle.lockstep_turn.proofs.lockstep_steps as lockstep_steps
 pub use Rattle.lockstep_turn.proofs.moment_laws as moment_laws
-pub use Rattle.lockstep_turn.proofs.lockstep_room as lockstep_room
+pub use Rattle.lockstep_turn.proofs.next_touches as next_touches
+pub use Rattle.lockstep_turn.proofs.lockstep_slots as lockstep_slots
+pub use Rattle.lockstep_turn.proofs.block_events as block_events

@@ -2,6 +2,15 @@ pub use Rattle.lockstep_turn.specs as lockstep_turn
 pub use Rattle.lockstep_turn.specs.phase_faults as phase_faults
 pub use Rattle.lockstep_turn.specs.slot_laws as slot_laws
 pub use Rattle.lockstep_turn.specs.lockstep_block as lockstep_block
+pub use Rattle.lockstep_turn.specs.lockstep_room as lockstep_room
+pub use Rattle.lockstep_turn.specs.copy_skip as copy_skip
+pub use Rattle.lockstep_turn.specs.lockstep_copy as lockstep_copy
 pub use Rattle.lockstep_turn.specs.lockstep_steps as lockstep_steps
 pub use Rattle.lockstep_turn.specs.moment_laws as moment_laws
-pub use Rattle.lockstep_turn.specs.lockstep_room as lockstep_room
+pub use Rattle.lockstep_turn.specs.next_touches as next_touches
+pub use Rattle.lockstep_turn.specs.window_places as window_places
+pub use Rattle.lockstep_turn.specs.lockstep_copies as lockstep_copies
+pub use Rattle.lockstep_turn.specs.lockstep_slots as lockstep_slots
+pub use Rattle.lockstep_turn.specs.slot_steps as slot_steps
+pub use Rattle.lockstep_turn.specs.graded_steps as graded_steps
+pub use Rattle.lockstep_turn.specs.block_events as block_events

@@ -6,13 +6,14 @@ ghost use Rattle.trace_window.specs.Moments.{window_events};
 ghost use Rattle.lockstep_turn.specs.lockstep_block.Own.{MayRunOwn};
 ghost use Rattle.lockstep_turn.specs.lockstep_block.Rooms.{MayStandThere};
 ghost use Rattle.lockstep_turn.specs.lockstep_room.Rooms.{AreCounts};
-ghost use Rattle.graded_steps.specs.Behind.{RisesWithin};
+ghost use Rattle.lockstep_turn.specs.graded_steps.Behind.{RisesWithin};
 ghost use Rattle.lockstep_turn.specs.slot_laws.Slots.{AreOfOneWindow};
 ghost use Rattle.lockstep_turn.specs.phase_faults.Beside.{FaultsMayGo, HasSite, HaveGoneOn, RoomWaits, TakesOwn, ticked_of};
 
 use good_trace::Setup;
 use lockstep_turn::{
-    FaultBeside, LockstepRoom, LockstepWindow, follow_block, look_ahead, run_own_block, stand_at,
+    FaultBeside, LockstepRoom, LockstepWindow, NextTouches, follow_block, look_ahead,
+    run_own_block, stand_at,
 };
 use std::alloc::Global;
 use std::sync::ledger::Ledger;
@@ -30,6 +31,7 @@ fn take_own<N: World, L: Ledger>(
     setup: &Setup<'_, N>,
     view: &LockstepWindow<'_, N>,
     room: &mut LockstepRoom<'_, N>,
+    touches: &mut NextTouches<N>,
     time: u64,
     each: &mut FaultBeside,
     end: u32,
@@ -72,7 +74,7 @@ fn take_own<N: World, L: Ledger>(
         return Ok(());
     }
     let next = room.behind.moment();
-    look_ahead(setup, view, each, next, end);
+    look_ahead(setup, view, touches, each, next, end);
     Ok(())
 }
 
@@ -87,6 +89,7 @@ pub(crate) fn take_block<N: World, L: Ledger>(
     setup: &Setup<'_, N>,
     view: &LockstepWindow<'_, N>,
     room: &mut LockstepRoom<'_, N>,
+    touches: &mut NextTouches<N>,
     time: u64,
     faults: &mut Vec<FaultBeside>,
     end: u32,
@@ -111,7 +114,7 @@ pub(crate) fn take_block<N: World, L: Ledger>(
         .pass_block(setup, view.window, view.blocks, view.wakes)?;
     'faults: for place in 0..faults.len() {
         let each = &mut faults[place];
-        take_own(alloc, setup, view, room, time, each, end, steps)?;
+        take_own(alloc, setup, view, room, touches, time, each, end, steps)?;
     }
     follow_block(setup, &mut room.runner, &room.behind, room.counts)?;
     room.before

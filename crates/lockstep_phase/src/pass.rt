@@ -2,7 +2,7 @@
 
 ghost use Rattle.std.specs.Prelude.{◌≡◌, ◌<◌, ℕ, length, OnOk};
 ghost use Rattle.lockstep_turn.specs.lockstep_room.Rooms.{AreCounts};
-ghost use Rattle.lockstep_slots.specs.Places.{Place};
+ghost use Rattle.lockstep_turn.specs.lockstep_slots.Places.{Place};
 ghost use Rattle.lockstep_turn.specs.slot_laws.Slots.{AreOfOneWindow, GoesOverBlock, HasBlockNext, IsRoomIn, MayGoTo, StopsAt, further};
 
 use good_trace::Setup;

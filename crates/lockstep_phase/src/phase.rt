@@ -4,8 +4,8 @@ ghost use Rattle.std.specs.Prelude.{◌≡◌, ◌<◌, ◌≤◌, ℕ, length, 
 ghost use Rattle.std.specs.List.{AllZip};
 ghost use Rattle.vf_base.specs.Lists.{AllHold};
 ghost use Rattle.lockstep_turn.specs.lockstep_room.Rooms.{AreCounts};
-ghost use Rattle.graded_steps.specs.Behind.{RisesWithin};
-ghost use Rattle.lockstep_slots.specs.Places.{Place};
+ghost use Rattle.lockstep_turn.specs.graded_steps.Behind.{RisesWithin};
+ghost use Rattle.lockstep_turn.specs.lockstep_slots.Places.{Place};
 ghost use Rattle.lockstep_turn.specs.slot_laws.Slots.{AreOfOneWindow, IsRoomIn, further};
 ghost use Rattle.lockstep_turn.specs.phase_faults.Beside.{ComesThroughPhase, FaultsMayGo, HasSite, HaveGoneOn, IsRoomSomewhere, MayGoOnIf, ticked_of};
 
@@ -13,7 +13,9 @@ use crate::filter::ask_all;
 use crate::own::take_block;
 use crate::pass::pass_until;
 use good_trace::Setup;
-use lockstep_turn::{FaultBeside, LockstepRoom, LockstepWindow, least_until, look_ahead_all};
+use lockstep_turn::{
+    FaultBeside, LockstepRoom, LockstepWindow, NextTouches, least_until, look_ahead_all,
+};
 use std::alloc::Global;
 use std::sync::ledger::Ledger;
 use v_design::World;
@@ -29,6 +31,7 @@ fn go_further<N: World, L: Ledger>(
     setup: &Setup<'_, N>,
     view: &LockstepWindow<'_, N>,
     room: &mut LockstepRoom<'_, N>,
+    touches: &mut NextTouches<N>,
     time: u64,
     faults: &mut Vec<FaultBeside>,
     end: u32,
@@ -52,7 +55,7 @@ fn go_further<N: World, L: Ledger>(
     let least = least_until(faults, end);
     pass_until(setup, view, room, least)?;
     if least < end {
-        take_block(alloc, setup, view, room, time, faults, end, steps)?;
+        take_block(alloc, setup, view, room, touches, time, faults, end, steps)?;
         return Ok(());
     }
     Ok(())
@@ -68,6 +71,7 @@ fn go_to_end<N: World, L: Ledger>(
     setup: &Setup<'_, N>,
     view: &LockstepWindow<'_, N>,
     room: &mut LockstepRoom<'_, N>,
+    touches: &mut NextTouches<N>,
     time: u64,
     faults: &mut Vec<FaultBeside>,
     end: u32,
@@ -82,13 +86,13 @@ fn go_to_end<N: World, L: Ledger>(
     ensures ticks { OnOk result (RisesWithin (sum_by ticked_of faults.old.items) (sum_by ticked_of faults.new.items) steps.old steps.new) }
 {
     'moments: while room.before.moment() < end {
-        go_further(alloc, setup, view, room, time, faults, end, steps)?;
+        go_further(alloc, setup, view, room, touches, time, faults, end, steps)?;
     }
     Ok(())
 }
 
 /// Faults go through a phase beside one another, from the place at which the room stands at a time in steps. Of those that still go in lockstep then the phase has no race. The counter
-/// rises by no more than the process steps of the faults' own blocks.
+/// rises by no more than the process steps of the faults' own blocks. What `touches` knows of the window is used, and more is put to it.
 ///
 /// # Errors
 ///
@@ -98,6 +102,7 @@ pub fn all_through_phase<N: World, L: Ledger>(
     setup: &Setup<'_, N>,
     view: &LockstepWindow<'_, N>,
     room: &mut LockstepRoom<'_, N>,
+    touches: &mut NextTouches<N>,
     time: u64,
     faults: &mut Vec<FaultBeside>,
     steps: &mut Steps<L>,
@@ -119,15 +124,15 @@ pub fn all_through_phase<N: World, L: Ledger>(
 {
     lockstep_turn::places_are_told();
     lockstep_turn::steps_go_on();
-    slot_steps::slot_steps_go_on();
+    lockstep_turn::slot_steps_go_on();
     view.blocks.stands();
     let slot = room.before.slot();
     let phase = room.before.phase();
     let moment = room.before.moment();
     let ends = view.blocks.phase_ends();
     let end = ends[phase as usize];
-    look_ahead_all(setup, view, faults, moment, end);
-    go_to_end(alloc, setup, view, room, time, faults, end, steps)?;
+    look_ahead_all(setup, view, touches, faults, moment, end);
+    go_to_end(alloc, setup, view, room, touches, time, faults, end, steps)?;
     ask_all(setup, view, &mut room.filter, faults, slot, end);
     Ok(())
 }

@@ -10,11 +10,12 @@ use Rattle.vf_base.specs.declared.ids.ProcId.{ProcId}
 use Rattle.v_design.specs.Assignments.{value_at}
 use Rattle.v_design.specs.Designs.{FlatDesign, FlatProcess}
 use Rattle.v_design.specs.States.{State, NodeState, ProcessState, process_at, node_at, found_or, idle_process}
-use Rattle.block_events.specs.Runners.{cleared_state}
+use Rattle.lockstep_exchange.specs.block_events.Runners.{cleared_state}
 use Rattle.block_changes.specs.Changes.{WithinIsOne}
 use Rattle.lockstep_exchange.specs.Putting.{ValuesArePut, ProcessesArePut}
 use Rattle.lockstep_exchange.proofs.Whole.{put-nodes, put-process, put-process_count, put-time, put-value, put-value_count, same-state, same_within}
-use Rattle.lockstep_room.specs.Rooms.{IsBrought, MayFollow, MayStandAt, lane_numbers, processes_among, processes_below, values_among, values_below}
+use Rattle.lockstep_room.specs.Rooms.{IsBrought, MayFollow, MayStandAt, processes_among, processes_below, values_among, values_below}
+use Rattle.lockstep_exchange.specs.Putting.{lane_numbers}
 
 -- A state that has changed in some parts
 

@@ -17,7 +17,7 @@ use Rattle.process_table.specs.Waited.{IsWaitable, activity_entries, body_of}
 use Rattle.event_queue.specs.Queues.{WakesAfter, holding_of}
 use Rattle.run_ends.specs.RunEnds.{IsCodeAt, AreCodesOf}
 use Rattle.good_trace.specs.RunsKept.{Stands}
-use Rattle.block_events.specs.Runners.{cleared_state}
+use Rattle.lockstep_exchange.specs.block_events.Runners.{cleared_state}
 use Rattle.lockstep_exchange.specs.Putting.{ValuesArePut, ProcessesArePut}
 use Rattle.lockstep_room.specs.Rooms.{MayStandAt, MayStandSo, processes_among, values_among}
 

@@ -1,7 +1,6 @@
 -- A runner that comes into a state that is shown (slots by IEEE 1364-2001, clause 5).
-use Rattle.std.specs.Prelude.{◌≡◌, ℕ, false, ◌||◌, cond, nat_lt, List, [], ◌∷◌, length, map, Option, Some, None}
+use Rattle.std.specs.Prelude.{◌≡◌, ℕ, false, ◌||◌, cond, nat_lt, List, length, map, Option, Some, None}
 use Rattle.four_value.specs.Values.{LogicValue}
-use Rattle.vf_base.specs.Base.{process_number}
 use Rattle.vf_base.specs.Lists.{has}
 use Rattle.vf_base.specs.declared.ids.ProcId.{ProcId}
 use Rattle.v_design.specs.Assignments.{value_at}
@@ -12,6 +11,7 @@ use Rattle.process_table.specs.Puts.{MayStand}
 use Rattle.run_ends.specs.RunEnds.{AreCodesOf}
 use Rattle.copy_laws.specs.Moves.{Parts, ChangesOnly}
 use Rattle.lockstep_exchange.specs.Exchange.{AreWide}
+use Rattle.lockstep_exchange.specs.Putting.{lane_numbers}
 use Rattle.lockstep_room.specs.declared.counts.Counts.{Counts}
 
 -- What is found
@@ -22,11 +22,6 @@ values_among objects state object = cond (has objects object) (Some (value_at st
 
 abbrev pub processes_among : List ℕ → State → ℕ → Option ProcessState
 processes_among processes state process = cond (has processes process) (Some (process_at state process)) None
-
--- the process whose lane took a step, if one did
-abbrev pub lane_numbers : Option ProcId → List ℕ
-lane_numbers None = []
-lane_numbers (Some process) = process_number process ∷ []
 
 -- so many first ones
 abbrev pub values_below : ℕ → State → ℕ → Option LogicValue

@@ -1,15 +1,14 @@
 // A runner is put into any state that is shown, object by object and process by process.
 
 ghost use Rattle.std.specs.Prelude.{◌≡◌, ◌≤◌, length, OnOk};
-ghost use Rattle.block_events.specs.Runners.{IsWhole, machine_of, state_of};
+ghost use Rattle.lockstep_exchange.specs.block_events.Runners.{IsWhole, machine_of, state_of};
 ghost use Rattle.lockstep_exchange.specs.Putting.{ProcessesArePut, ValuesArePut};
 ghost use Rattle.lockstep_room.specs.Rooms.{processes_below, values_below};
 ghost use Rattle.lockstep_room.specs.Rooms.{AreCounts, MayStandAt, MayStandSo};
 
 use crate::counts::Counts;
 use crate::following::follow_process;
-use block_events::Runner;
-use lockstep_exchange::ShownState;
+use lockstep_exchange::{Runner, ShownState};
 use vf_base::{NoMemory, ObjectId, ProcId};
 
 /// Each of so many objects comes to hold what is shown.

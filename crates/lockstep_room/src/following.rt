@@ -2,13 +2,13 @@
 
 ghost use Rattle.std.specs.Prelude.{◌≡◌, ◌∷◌, [], map, OnOk};
 ghost use Rattle.vf_base.specs.Base.{object_number, process_number};
-ghost use Rattle.block_events.specs.Runners.{IsWhole, machine_of, state_of};
+ghost use Rattle.lockstep_exchange.specs.block_events.Runners.{IsWhole, machine_of, state_of};
 ghost use Rattle.lockstep_exchange.specs.Putting.{ProcessesArePut, ValuesArePut};
-ghost use Rattle.lockstep_room.specs.Rooms.{AreCounts, IsBrought, MayFollow, MayStandSo, lane_numbers, processes_among, values_among};
+ghost use Rattle.lockstep_room.specs.Rooms.{AreCounts, IsBrought, MayFollow, MayStandSo, processes_among, values_among};
+ghost use Rattle.lockstep_exchange.specs.Putting.{lane_numbers};
 
 use crate::counts::Counts;
-use block_events::Runner;
-use lockstep_exchange::ShownState;
+use lockstep_exchange::{Runner, ShownState};
 use vf_base::{NoMemory, ObjectId, ProcId};
 
 /// An object, if it is there, comes to hold what is shown.

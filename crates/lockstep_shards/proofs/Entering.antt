@@ -14,9 +14,11 @@ use Rattle.copy_state.specs.Entries.{each_by}
 use Rattle.process_code.specs.declared.state.ProcState.{ProcState}
 use Rattle.lockstep_laws.specs.Lockstep.{due_times}
 use Rattle.lockstep_copies.specs.Copies.{IsCopyInLockstep}
-use Rattle.beside_laws.specs.Gradings.{GradingGoesOn}
+use Rattle.fault_strobes.specs.Said.{plan_by}
+use Rattle.fault_strobes.specs.Strobes.{StrobesGoOn}
+use Rattle.fault_strobes.proofs.Faults.{copy-back, time-same}
 use Rattle.copy_window.specs.Copies.{differences_in, done_in}
-use Rattle.copy_window.specs.ShardFaults.{GoesOnAt, beside_by, grader_by}
+use Rattle.copy_window.specs.ShardFaults.{GoesOnAt, beside_by, kept_by, said_by}
 use Rattle.copy_window.specs.declared.fault.ShardFault.{ShardFault}
 use Rattle.lockstep_shards.specs.Shards.{AreDueAlike, IsOpenBehind}
 use Rattle.lockstep_shards.proofs.Laws.{ShardLaws, fine-there, last, last-there, next-later, some-is, time-is}
@@ -35,17 +37,18 @@ module _ (design : FlatDesign) (plan : TestPlan) (fault : StuckAt) (number time 
 
 module _ (laws : ShardLaws) (design : FlatDesign) (plan : TestPlan) (fault : StuckAt) (number time passed : ℕ) (own : ShardFault) (rules : KeepsRules design)
     (open_now : IsOpenBehind design plan fault number time passed own) where
-  beside : IsBesideAt design plan (suc number) (beside_by design fault own)
-  beside = subst (λ (f : StuckAt). IsBesideAt design plan (suc number) (beside_by design f own)) (fault_is design plan fault number time passed own open_now) open_now.stands.beside
+  beside : IsBesideAt design (plan_by (kept_by own) plan) (suc number) (beside_by design fault own)
+  beside = subst (λ (f : StuckAt). IsBesideAt design (plan_by (kept_by own) plan) (suc number) (beside_by design f own)) (fault_is design plan fault number time passed own open_now) open_now.stands.beside
 
   none-found : option_map grade_of own.end ≡ None
   none-found = ap (λ (end : Option End). option_map grade_of end) open_now.none
 
-  pub grading : GradingGoesOn design plan fault (Some time) (take passed plan.strobes) (drop passed plan.strobes) (grader_by plan own)
+  pub grading : StrobesGoOn design plan fault (Some time) (take passed plan.strobes) (drop passed plan.strobes) (said_by own)
   grading =
-      laws.grading.again design plan fault time (take passed plan.strobes) (drop passed plan.strobes) (grader_by plan own)
-      (laws.faults.is_open design plan (suc number) time (beside_by design fault own) beside none-found open_now.time_is) (sym (take-append-drop passed plan.strobes))
-      (open_now.has_passed.early time open_now.time_is open_now.more) (open_now.has_passed.later time open_now.time_is open_now.more) refl (goes-on design plan fault number time passed own open_now).shown
+      laws.grading.again design plan fault time (take passed plan.strobes) (drop passed plan.strobes) (said_by own)
+      (laws.stay.is_open design (plan_by (kept_by own) plan) (suc number) time (beside_by design fault own) beside none-found
+      (time-same design plan (kept_by own) (suc number) ∙ open_now.time_is)) (sym (take-append-drop passed plan.strobes))
+      (open_now.has_passed.early time open_now.time_is open_now.more) (open_now.has_passed.later time open_now.time_is open_now.more) (goes-on design plan fault number time passed own open_now).so_far
 
   slot : FirstSlot
   slot = last laws.good design plan rules number open_now.more
@@ -60,7 +63,9 @@ module _ (laws : ShardLaws) (design : FlatDesign) (plan : TestPlan) (fault : Stu
     since = omega (arith, same);
     before = λ next there. (let later = next-later laws.good design plan rules number open_now.more next there in omega (arith, later, same));
     own_on = grading.faulty;
-    copy = beside.copy time open_now.time_is none-found;
+    copy =
+        copy-back design plan fault (kept_by own) time (differences_in design own.copy)
+        (beside.copy time (time-same design plan (kept_by own) (suc number) ∙ open_now.time_is) none-found);
     may = record {
       activities = λ process. ap (λ (states : List (ℕ × ProcState)). own_of (each_by (done_in design) states) process) none;
       updates = λ process updates found.

@@ -12,20 +12,21 @@ use Rattle.copy_laws.specs.Windows.{good_slots, time_at}
 use Rattle.grade_laws.specs.Ahead.{StopsAfter}
 use Rattle.grade_laws.specs.Grading.{good_stop}
 use Rattle.beside_laws.specs.GoodRuns.{GoodRunGoesOn, IsOpenAt}
-use Rattle.beside_laws.specs.Gradings.{GradingsEnd, GradingsGoOn}
+use Rattle.fault_strobes.specs.Strobes.{StrobedFaultsGoOn, StrobedGradingsEnd, StrobedGradingsGoOn}
 use Rattle.beside_laws.specs.Shards.{FaultsGoOn}
 use Rattle.beside_laws.specs.Stands.{RunsGoOn, RunsStand}
 use Rattle.quiet_index.specs.PassOver.{CopiesPassOver}
 use Rattle.quiet_slots.specs.Strobes.{StrobesSeeCopies}
 use Rattle.run_stands.specs.Standing.{StatesStandBetween}
 use Rattle.lockstep_copies.specs.Copies.{CopiesGoInLockstep}
-use Rattle.window_strobes.specs.Neighbours.{time-between}
+use Rattle.copy_window.specs.window_strobes.Neighbours.{time-between}
 
 pub record ShardLaws : Type 0 where
   pub copies : CopiesGoInLockstep
-  pub grading : GradingsGoOn
-  pub ends : GradingsEnd
-  pub faults : FaultsGoOn
+  pub grading : StrobedGradingsGoOn
+  pub ends : StrobedGradingsEnd
+  pub faults : StrobedFaultsGoOn
+  pub stay : FaultsGoOn
   pub good : GoodRunGoesOn
   pub goes : RunsGoOn
   pub runs : RunsStand

@@ -17,12 +17,14 @@ use Rattle.grade_laws.specs.Ahead.{StopsAfter}
 use Rattle.grade_laws.specs.Grading.{faulty_stop}
 use Rattle.lockstep_copies.specs.Copies.{IsCopyInLockstep, own_begins}
 use Rattle.beside_laws.specs.GoodRuns.{IsOpenAt}
-use Rattle.beside_laws.specs.Gradings.{EndsAt, GradingGoesOn}
+use Rattle.fault_strobes.specs.Full.{IsFull}
+use Rattle.fault_strobes.specs.Said.{plan_by}
+use Rattle.fault_strobes.specs.Strobes.{EndsWith, StrobesGoOn}
 use Rattle.beside_laws.specs.Stands.{HasRun}
 use Rattle.quiet_slots.specs.SlotTimes.{slot-time}
-use Rattle.window_strobes.specs.Passed.{HasPassed}
+use Rattle.copy_window.specs.window_strobes.Passed.{HasPassed}
 use Rattle.copy_window.specs.Copies.{differences_in}
-use Rattle.copy_window.specs.ShardFaults.{GoesOnAt, IsShardFault, beside_by, grader_by}
+use Rattle.copy_window.specs.ShardFaults.{GoesOnAt, IsShardFault, beside_by, kept_by, said_by}
 use Rattle.copy_window.specs.declared.fault.ShardFault.{ShardFault}
 use Rattle.lockstep_shards.proofs.Keeping.{lockstep-keeps, lockstep-no-states}
 use Rattle.lockstep_shards.proofs.Laws.{ShardLaws, open-at, some-is}
@@ -32,19 +34,19 @@ use Rattle.lockstep_shards.proofs.Laws.{ShardLaws, open-at, some-is}
 module _ (laws : ShardLaws) (design : FlatDesign) (plan : TestPlan) (fault : StuckAt) (number time count : ℕ) (now : Option ℕ) (own : ShardFault)
     (c : IsCopyInLockstep design plan fault number time (differences_in design own.copy)) (listed : slice_get plan.faults own.copy.fault ≡ Some fault) (none : own.end ≡ None)
     (more : suc number < length (good_slots design plan)) (time_is : time_at design plan (suc number) ≡ Some time) (has : HasPassed design plan (suc number) count)
-    (goes : GradingGoesOn design plan fault now (take count plan.strobes) (drop count plan.strobes) (grader_by plan own))
+    (goes : StrobesGoOn design plan fault now (take count plan.strobes) (drop count plan.strobes) (said_by own))
     (own_time : (state_at (faulty_machine design fault) plan.end time).time ≡ own.time) where
   open_now : IsOpenAt design plan (suc number) time
   open_now = open-at laws.good design plan c.rules number more time time_is
 
-  goes-there : GradingGoesOn design plan fault (Some time) (take count plan.strobes) (drop count plan.strobes) (grader_by plan own)
+  goes-there : StrobesGoOn design plan fault (Some time) (take count plan.strobes) (drop count plan.strobes) (said_by own)
   goes-there =
-      laws.grading.passes design plan fault now (take count plan.strobes) (drop count plan.strobes) (grader_by plan own) time goes (has.later time time_is more) open_now.goes_on c.own_on
+      laws.grading.passes design plan fault now (take count plan.strobes) (drop count plan.strobes) (said_by own) time goes (has.later time time_is more) open_now.goes_on c.own_on
 
-  beside : IsBesideAt design plan (suc number) (beside_by design fault own)
+  beside : IsBesideAt design (plan_by (kept_by own) plan) (suc number) (beside_by design fault own)
   beside =
-      subst (λ (end : Option End). IsBesideAt design plan (suc number) (record { fault = fault; differences = differences_in design own.copy; found = option_map grade_of end })) (sym none)
-      (laws.faults.goes_on design plan fault (suc number) time (take count plan.strobes) (drop count plan.strobes) (grader_by plan own) (differences_in design own.copy) open_now goes-there c.copy)
+      subst (λ (end : Option End). IsBesideAt design (plan_by (kept_by own) plan) (suc number) (record { fault = fault; differences = differences_in design own.copy; found = option_map grade_of end })) (sym none)
+      (laws.faults.goes_on design plan fault (suc number) time (take count plan.strobes) (drop count plan.strobes) (said_by own) (differences_in design own.copy) open_now goes-there c.copy)
 
   goes-on : GoesOnAt design plan (suc number) count fault time own
   goes-on = record {
@@ -52,7 +54,7 @@ module _ (laws : ShardLaws) (design : FlatDesign) (plan : TestPlan) (fault : Stu
     between = laws.stand (faulty_machine design fault) plan.end time c.rules (let early : time < plan.end = open_now.early in omega (arith, early)) c.own_on;
     time_is = own_time;
     states = λ codes are. subst (AreStatesOf codes) (sym (lockstep-no-states laws design plan fault number time own.copy c)) tt;
-    shown = goes-there.shown;
+    so_far = goes-there.so_far;
   }
 
   pub leaves : IsShardFault design plan (suc number) count own
@@ -60,6 +62,7 @@ module _ (laws : ShardLaws) (design : FlatDesign) (plan : TestPlan) (fault : Stu
     fault = fault;
     listed = listed;
     beside = beside;
+    full = λ end some. (let no : Some end ≡ None = sym some ∙ none in cc);
     within = lockstep-keeps laws design plan fault number time own.copy c;
     goes_on = λ other e further none_now. subst (λ t. GoesOnAt design plan (suc number) count fault t own) (some-is time other (sym time_is ∙ e)) goes-on;
   }
@@ -67,14 +70,15 @@ module _ (laws : ShardLaws) (design : FlatDesign) (plan : TestPlan) (fault : Stu
 -- Its grading ended
 
 pub found : ShardLaws → (design : FlatDesign) (plan : TestPlan) (fault : StuckAt) (number time count ended : ℕ) (end : End) (own : ShardFault) → KeepsRules design →
-    EndsAt design plan fault ended (grade_of end) → ended ≤ time → slice_get plan.faults own.copy.fault ≡ Some fault → own.end ≡ Some end →
+    EndsWith design plan fault ended (grade_of end) (said_by own) → ended ≤ time → slice_get plan.faults own.copy.fault ≡ Some fault → own.end ≡ Some end →
     KeepsWithin (length design.objects) (length design.processes) own.copy → suc number < length (good_slots design plan) → time_at design plan (suc number) ≡ Some time →
     IsShardFault design plan (suc number) count own
 found laws design plan fault number time count ended end own rules ends low listed is within more time_is = record {
   fault = fault;
   listed = listed;
-  beside = subst (λ (o : Option End). IsBesideAt design plan (suc number) (record { fault = fault; differences = differences_in design own.copy; found = option_map grade_of o })) (sym is)
-      (laws.faults.ends design plan fault (suc number) time ended (grade_of end) (differences_in design own.copy) (open-at laws.good design plan rules number more time time_is) ends low);
+  beside = subst (λ (o : Option End). IsBesideAt design (plan_by (kept_by own) plan) (suc number) (record { fault = fault; differences = differences_in design own.copy; found = option_map grade_of o })) (sym is)
+      (laws.faults.ends design plan fault (kept_by own) (suc number) time ended (grade_of end) (differences_in design own.copy) (open-at laws.good design plan rules number more time time_is) ends.ends low);
+  full = λ other e. subst (λ (o : End). IsFull design plan fault (grade_of o) (said_by own)) (some-is end other (sym is ∙ e)) ends.full;
   within = within;
   goes_on = λ other e further none. (let no : Some end ≡ None = sym is ∙ none in cc);
 }
@@ -90,8 +94,9 @@ stays laws design plan gone later passed count own rules stands ended low =
     record {
       fault = stands.fault;
       listed = stands.listed;
-      beside = laws.faults.stays design plan gone later (beside_by design stands.fault own) (grade_of there.0) rules low stands.beside
+      beside = laws.stay.stays design (plan_by (kept_by own) plan) gone later (beside_by design stands.fault own) (grade_of there.0) rules low stands.beside
           (ap (λ (end : Option End). option_map grade_of end) there.1);
+      full = stands.full;
       within = stands.within;
       goes_on = λ other e further none. (let no : Some there.0 ≡ None = sym there.1 ∙ none in cc);
     }

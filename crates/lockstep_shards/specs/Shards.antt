@@ -1,5 +1,5 @@
 -- A fault of a shard from slot to slot in lockstep with the good machine (strobes by the plan; slots by IEEE 1364-2001, clause 5).
-use Rattle.std.specs.Prelude.{◌≡◌, ℕ, suc, ◌<◌, ◌≤◌, true, List, [], ◌∷◌, ◌++◌, length, take, drop, Option, Some, None, is_some, slice_get}
+use Rattle.std.specs.Prelude.{◌≡◌, ℕ, suc, ◌<◌, ◌≤◌, true, false, List, [], ◌∷◌, ◌++◌, length, take, drop, Option, Some, None, is_some, slice_get}
 use Rattle.four_value.specs.declared.logic.Bit.{Bit}
 use Rattle.vf_base.specs.Base.{WatchedBit}
 use Rattle.vf_base.specs.Lists.{AllHold}
@@ -10,7 +10,6 @@ use Rattle.v_design.specs.Plain.{grade_of}
 use Rattle.v_design.specs.Runs.{FirstSlot}
 use Rattle.v_design.specs.States.{LaterUpdate}
 use Rattle.v_design.specs.WellFormed.{IsPlan, KeepsRules}
-use Rattle.strobe_detect.specs.Graders.{GraderState, shown_at}
 use Rattle.between_slots.specs.Updates.{updates_through}
 use Rattle.copy_laws.specs.Differences.{Differences, own_of}
 use Rattle.copy_laws.specs.Windows.{IsCopyAt, good_slots, state_at, time_at}
@@ -21,11 +20,12 @@ use Rattle.grade_laws.specs.Ahead.{StopsAfter}
 use Rattle.grade_laws.specs.Grading.{good_stop, faulty_stop}
 use Rattle.lockstep_laws.specs.Lockstep.{due_times}
 use Rattle.lockstep_copies.specs.Copies.{IsCopyInLockstep}
-use Rattle.beside_laws.specs.Gradings.{EndsAt, GradingGoesOn}
+use Rattle.fault_strobes.specs.Said.{Said, ends_there, said_at}
+use Rattle.fault_strobes.specs.Strobes.{EndsWith, StrobesGoOn}
 use Rattle.quiet_index.specs.PassOver.{SlotsLeaveAlone}
-use Rattle.window_strobes.specs.Passed.{HasPassed}
+use Rattle.copy_window.specs.window_strobes.Passed.{HasPassed}
 use Rattle.copy_window.specs.Copies.{differences_in}
-use Rattle.copy_window.specs.ShardFaults.{IsShardFault, grader_by}
+use Rattle.copy_window.specs.ShardFaults.{IsShardFault, said_by}
 use Rattle.copy_window.specs.declared.fault.ShardFault.{ShardFault}
 
 -- a fault of a shard behind a slot of the good first run of a number, at its time; more slots come, so many strobes passed, and nothing was found of it so far
@@ -65,32 +65,33 @@ pub record ShardsGoInLockstep : Type 0 where
       own.copy.states ≡ [] → AreDueAlike design plan (suc number) own.copy.updates → IsCopyInLockstep design plan fault number time (differences_in design own.copy)
   -- its grading goes on there, with the strobes so far
   pub grading : (design : FlatDesign) (plan : TestPlan) (fault : StuckAt) (number time passed : ℕ) (own : ShardFault) → KeepsRules design → IsOpenBehind design plan fault number time passed own →
-      GradingGoesOn design plan fault (Some time) (take passed plan.strobes) (drop passed plan.strobes) (grader_by plan own)
+      StrobesGoOn design plan fault (Some time) (take passed plan.strobes) (drop passed plan.strobes) (said_by own)
   -- a copy in lockstep stands at each strobe before the next slot
   pub strobes : (design : FlatDesign) (plan : TestPlan) (fault : StuckAt) (number time : ℕ) (d : Differences) (strobe : ℕ) → IsCopyInLockstep design plan fault number time d → time ≤ strobe →
       ((next : FirstSlot) → slice_get (good_slots design plan) (suc number) ≡ Some next → strobe < next.begins.time) → StopsAfter strobe (good_stop design plan) →
       StandsAtStrobe design plan fault d strobe
-  -- a grader that is shown these bits at the next strobe either found nothing hard, and the grading goes on
-  pub sees : (design : FlatDesign) (plan : TestPlan) (fault : StuckAt) (now : Option ℕ) (passed next : List ℕ) (d : Differences) (strobe : ℕ) (grader new : GraderState) (good faulty : List Bit) →
-      KeepsRules design → IsPlan plan → GradingGoesOn design plan fault now passed (strobe ∷ next) grader → StandsAtStrobe design plan fault d strobe → AreSeenAt design plan d strobe good faulty →
-      new ≡ shown_at strobe good faulty grader → new.hard ≡ None → GradingGoesOn design plan fault (Some strobe) (passed ++ strobe ∷ []) next new
-  -- or it did, and the grading ends there
-  pub finds : (design : FlatDesign) (plan : TestPlan) (fault : StuckAt) (now : Option ℕ) (passed next : List ℕ) (d : Differences) (strobe found : ℕ) (grader new : GraderState)
-      (good faulty : List Bit) → KeepsRules design → GradingGoesOn design plan fault now passed (strobe ∷ next) grader → StandsAtStrobe design plan fault d strobe →
-      AreSeenAt design plan d strobe good faulty → new ≡ shown_at strobe good faulty grader → new.hard ≡ Some found → EndsAt design plan fault strobe (Judged (Detected strobe))
+  -- the next strobe, which shows these bits, either doesn't end the grading, and it goes on
+  pub sees : (design : FlatDesign) (plan : TestPlan) (fault : StuckAt) (now : Option ℕ) (passed next : List ℕ) (d : Differences) (strobe : ℕ) (said new : Said) (good faulty : List Bit) →
+      KeepsRules design → IsPlan plan → StrobesGoOn design plan fault now passed (strobe ∷ next) said → StandsAtStrobe design plan fault d strobe → AreSeenAt design plan d strobe good faulty →
+      ends_there good faulty said ≡ false → new ≡ said_at strobe good faulty said → StrobesGoOn design plan fault (Some strobe) (passed ++ strobe ∷ []) next new
+  -- or it does
+  pub finds : (design : FlatDesign) (plan : TestPlan) (fault : StuckAt) (now : Option ℕ) (passed next : List ℕ) (d : Differences) (strobe : ℕ) (said new : Said)
+      (good faulty : List Bit) → KeepsRules design → StrobesGoOn design plan fault now passed (strobe ∷ next) said → StandsAtStrobe design plan fault d strobe →
+      AreSeenAt design plan d strobe good faulty → ends_there good faulty said ≡ true → new ≡ said_at strobe good faulty said →
+      EndsWith design plan fault strobe (Judged (Detected strobe)) new
   -- strobes at which a copy stands that keeps no value of a watched object find nothing new
-  pub unseen : (design : FlatDesign) (plan : TestPlan) (fault : StuckAt) (now : Option ℕ) (passed strobes later : List ℕ) (d : Differences) (grader : GraderState) → KeepsRules design →
+  pub unseen : (design : FlatDesign) (plan : TestPlan) (fault : StuckAt) (now : Option ℕ) (passed strobes later : List ℕ) (d : Differences) (said : Said) → KeepsRules design →
       IsPlan plan → AllHold (λ (w : WatchedBit). own_of d.values w.object ≡ None) plan.watched → AllHold (StandsAtStrobe design plan fault d) strobes →
-      GradingGoesOn design plan fault now passed (strobes ++ later) grader → (then : Option ℕ) × GradingGoesOn design plan fault then (passed ++ strobes) later grader
+      StrobesGoOn design plan fault now passed (strobes ++ later) said → (then : Option ℕ) × StrobesGoOn design plan fault then (passed ++ strobes) later said
   -- behind a slot a copy in lockstep is that of a fault of a shard again
   pub leaves : (design : FlatDesign) (plan : TestPlan) (fault : StuckAt) (number time count : ℕ) (now : Option ℕ) (own : ShardFault) →
       IsCopyInLockstep design plan fault number time (differences_in design own.copy) → slice_get plan.faults own.copy.fault ≡ Some fault → own.end ≡ None →
       suc number < length (good_slots design plan) → time_at design plan (suc number) ≡ Some time → HasPassed design plan (suc number) count →
-      GradingGoesOn design plan fault now (take count plan.strobes) (drop count plan.strobes) (grader_by plan own) → (state_at (faulty_machine design fault) plan.end time).time ≡ own.time →
+      StrobesGoOn design plan fault now (take count plan.strobes) (drop count plan.strobes) (said_by own) → (state_at (faulty_machine design fault) plan.end time).time ≡ own.time →
       IsShardFault design plan (suc number) count own
   -- so is one whose grading ended by then
   pub found : (design : FlatDesign) (plan : TestPlan) (fault : StuckAt) (number time count ended : ℕ) (end : End) (own : ShardFault) → KeepsRules design →
-      EndsAt design plan fault ended (grade_of end) → ended ≤ time → slice_get plan.faults own.copy.fault ≡ Some fault → own.end ≡ Some end →
+      EndsWith design plan fault ended (grade_of end) (said_by own) → ended ≤ time → slice_get plan.faults own.copy.fault ≡ Some fault → own.end ≡ Some end →
       KeepsWithin (length design.objects) (length design.processes) own.copy → suc number < length (good_slots design plan) → time_at design plan (suc number) ≡ Some time →
       IsShardFault design plan (suc number) count own
   -- and stays so behind all later slots

@@ -8,18 +8,26 @@
 
 ghost use Rattle.lockstep_shards.specs.Shards.{ShardsGoInLockstep};
 
+pub use copy_window::{
+    ShardFault, WindowStrobes, begin_fault, empty_log, good_bits, gradings_take_steps, new_fault,
+    new_room, resume_fault, runs_take_steps, strobes_after, strobes_of,
+};
+pub use lockstep_copies::copies_go_in_lockstep;
+pub use run_stands::Machine;
+
 /// A fault of a shard from slot to slot.
 pub fn shards_go_in_lockstep()
     ensures { ShardsGoInLockstep }
 {
     beside_laws::faults_go_on();
     beside_laws::good_run_goes_on();
-    beside_laws::gradings_end();
-    beside_laws::gradings_go_on();
     beside_laws::runs_go_on();
     beside_laws::runs_stand();
     between_slots::updates_pend();
     copy_laws::own_runs();
+    fault_strobes::strobed_faults_go_on();
+    fault_strobes::strobed_gradings_end();
+    fault_strobes::strobed_gradings_go_on();
     lockstep_copies::copies_go_in_lockstep();
     quiet_index::copies_pass_over();
     quiet_slots::strobes_see();

@@ -13,16 +13,16 @@ use Rattle.between_slots.specs.Between.{window_phases}
 use Rattle.copy_state.specs.Copied.{IsSameState, KeepsSame}
 use Rattle.copy_state.specs.Kept.{CopyKept}
 use Rattle.process_code.specs.declared.state.ProcState.{ProcState}
-use Rattle.block_events.specs.declared.runner.Runner.{Runner}
+use Rattle.lockstep_phase.specs.block_events.declared.runner.Runner.{Runner}
 use Rattle.lockstep_phase.specs.lockstep_block.declared.room.FaultInSlot.{FaultInSlot}
-use Rattle.lockstep_copies.specs.Copies.{IsCopyInLockstep, own_begins}
-use Rattle.lockstep_slots.specs.Places.{Place, first_place, steps_left}
+use Rattle.lockstep_phase.specs.lockstep_copies.Copies.{IsCopyInLockstep, own_begins}
+use Rattle.lockstep_phase.specs.lockstep_slots.Places.{Place, first_place, steps_left}
 use Rattle.lockstep_phase.specs.lockstep_steps.Laws.{StepsGoOn}
 use Rattle.lockstep_phase.specs.moment_laws.Shown.{MomentKept}
 use Rattle.moments_stand.specs.Standing.{MomentsStand}
 use Rattle.race_notes.specs.Notes.{HasNoNotes}
 use Rattle.trace_window.specs.Moments.{window_events}
-use Rattle.window_places.specs.Passing.{events_before}
+use Rattle.lockstep_phase.specs.window_places.Passing.{events_before}
 use Rattle.lockstep_phase.specs.slot_laws.Copies.{MayBeginSlot}
 use Rattle.lockstep_phase.specs.slot_laws.Laws.{SlotsAreCounted, events_all}
 use Rattle.lockstep_phase.specs.slot_laws.Slots.{IsRoomAtSlot, SlotGoesOn}

@@ -7,14 +7,14 @@ use Rattle.v_design.specs.Grades.{Phase, phases}
 use Rattle.v_design.specs.Plain.{fault_of, site_of}
 use Rattle.v_design.specs.Runs.{FirstSlot, most_steps}
 use Rattle.v_design.specs.declared.plan.Fault.{Fault}
-use Rattle.block_events.specs.declared.runner.Runner.{Runner}
+use Rattle.lockstep_phase.specs.block_events.declared.runner.Runner.{Runner}
 use Rattle.copy_laws.specs.Windows.{good_slots}
-use Rattle.copy_skip.specs.Limits.{SiteIsThere}
-use Rattle.lockstep_copies.specs.Copies.{IsCopyInLockstep, own_begins}
-use Rattle.lockstep_copy.specs.Laws.{KeptEnds, LanesTellTurns}
+use Rattle.lockstep_phase.specs.copy_skip.Limits.{SiteIsThere}
+use Rattle.lockstep_phase.specs.lockstep_copies.Copies.{IsCopyInLockstep, own_begins}
+use Rattle.lockstep_phase.specs.lockstep_copy.Laws.{KeptEnds, LanesTellTurns}
 use Rattle.lockstep_phase.specs.phase_faults.Beside.{ComesThroughPhase, HasSite, MayGoOnIf, StaysBeside, slot_steps_of}
 use Rattle.lockstep_phase.specs.phase_faults.declared.beside.FaultBeside.{FaultBeside}
-use Rattle.lockstep_slots.specs.Places.{Place, first_place, next_phase}
+use Rattle.lockstep_phase.specs.lockstep_slots.Places.{Place, first_place, next_phase}
 use Rattle.lockstep_phase.specs.lockstep_steps.Laws.{StepsGoOn}
 use Rattle.lockstep_phase.specs.moment_laws.Shown.{MomentKept}
 use Rattle.moments_stand.specs.Standing.{MomentsStand}

@@ -8,14 +8,14 @@ use Rattle.vf_base.specs.declared.limits.TheConstants.{MAX_END}
 use Rattle.v_design.specs.Designs.{FlatDesign, TestPlan}
 use Rattle.v_design.specs.Grades.{Phase}
 use Rattle.v_design.specs.Runs.{FirstSlot}
-use Rattle.block_events.specs.declared.runner.Runner.{Runner}
+use Rattle.lockstep_phase.specs.block_events.declared.runner.Runner.{Runner}
 use Rattle.between_slots.specs.Between.{window_phases}
 use Rattle.copy_laws.specs.Windows.{good_slots}
-use Rattle.lockstep_copy.specs.Laws.{KeptEnds, LanesTellTurns}
+use Rattle.lockstep_phase.specs.lockstep_copy.Laws.{KeptEnds, LanesTellTurns}
 use Rattle.lockstep_phase.proofs.phase_faults.Lists.{zip-holds, zip-join, zip-same}
 use Rattle.lockstep_phase.specs.phase_faults.Beside.{ComesThroughPhase, HasSite, MayGoOnIf, ticked_of}
 use Rattle.lockstep_phase.specs.phase_faults.declared.beside.FaultBeside.{FaultBeside}
-use Rattle.lockstep_slots.specs.Places.{Place, first_place, next_phase}
+use Rattle.lockstep_phase.specs.lockstep_slots.Places.{Place, first_place, next_phase}
 use Rattle.lockstep_phase.specs.lockstep_steps.Laws.{StepsGoOn}
 use Rattle.lockstep_phase.specs.moment_laws.Shown.{MomentKept}
 use Rattle.moments_stand.specs.Standing.{MomentsStand}

@@ -6,7 +6,7 @@ use Rattle.v_design.specs.Plain.{fault_of}
 use Rattle.v_design.specs.Runs.{FirstSlot, most_steps}
 use Rattle.copy_laws.specs.Differences.{Ascend}
 use Rattle.copy_laws.specs.Windows.{good_slots}
-use Rattle.lockstep_copies.specs.Copies.{IsCopyInLockstep, own_begins}
+use Rattle.lockstep_phase.specs.lockstep_copies.Copies.{IsCopyInLockstep, own_begins}
 use Rattle.race_notes.specs.Notes.{HasNoNotes}
 use Rattle.trace_window.specs.Moments.{window_events}
 use Rattle.lockstep_phase.specs.slot_laws.Copies.{MayBeginSlot, lockstep_differences}

@@ -7,8 +7,7 @@ ghost use Rattle.lockstep_phase.specs.slot_laws.Copies.{MayBeginSlot};
 ghost use Rattle.lockstep_slot.specs.Beside.{BeginsSlot};
 
 use copy_state::FaultCopy;
-use lockstep_copy::begin_slot;
-use lockstep_phase::{FaultBeside, FaultInSlot, LockstepWindow};
+use lockstep_phase::{FaultBeside, FaultInSlot, LockstepWindow, begin_slot};
 use race_notes::RaceNotes;
 use std::alloc::Global;
 use v_design::{Fault, World};

@@ -11,5 +11,7 @@ mod enter;
 mod slot;
 
 pub use enter::{enter_slot, rests};
-pub use lockstep_phase::{FaultBeside, FaultInSlot, LockstepRoom, LockstepWindow};
+pub use lockstep_phase::{
+    FaultBeside, FaultInSlot, LockstepRoom, LockstepWindow, NextTouches, slot_steps_go_on,
+};
 pub use slot::all_through_slot;

@@ -6,7 +6,7 @@ ghost use Rattle.vf_base.specs.Lists.{AllHold};
 ghost use Rattle.v_design.specs.Runs.{FirstSlot};
 ghost use Rattle.between_slots.specs.Between.{window_phases};
 ghost use Rattle.copy_laws.specs.Windows.{good_slots};
-ghost use Rattle.graded_steps.specs.Behind.{RisesWithin};
+ghost use Rattle.lockstep_phase.specs.graded_steps.Behind.{RisesWithin};
 ghost use Rattle.lockstep_phase.specs.lockstep_block.Rooms.{IsLockstepRoom};
 ghost use Rattle.lockstep_phase.specs.lockstep_room.Rooms.{AreCounts};
 ghost use Rattle.lockstep_phase.specs.phase_faults.Beside.{HasSite, ticked_of};
@@ -15,7 +15,8 @@ ghost use Rattle.lockstep_slot.specs.Beside.{BeginsSlotIf, ComesThroughSlot, Kee
 
 use good_trace::Setup;
 use lockstep_phase::{
-    FaultBeside, LockstepRoom, LockstepWindow, all_through_phase, stand_at, take_turn, turn_each,
+    FaultBeside, LockstepRoom, LockstepWindow, NextTouches, all_through_phase, stand_at, take_turn,
+    turn_each,
 };
 use std::alloc::Global;
 use std::sync::ledger::Ledger;
@@ -70,6 +71,7 @@ fn go_through_phases<N: World, L: Ledger>(
     setup: &Setup<'_, N>,
     view: &LockstepWindow<'_, N>,
     room: &mut LockstepRoom<'_, N>,
+    touches: &mut NextTouches<N>,
     faults: &mut Vec<FaultBeside>,
     slot: u32,
     now: u64,
@@ -88,28 +90,29 @@ fn go_through_phases<N: World, L: Ledger>(
     ensures room { OnOk result (IsLockstepRoom N.design room.new.runner room.new.before room.new.behind room.new.counts) }
     ensures ticks { OnOk result (RisesWithin (sum_by ticked_of faults.old.items) (sum_by ticked_of faults.new.items) steps.old steps.new) }
 {
-    lockstep_copy::kept_ends();
-    lockstep_copy::lanes_tell_turns();
+    lockstep_phase::kept_ends();
+    lockstep_phase::lanes_tell_turns();
     lockstep_phase::steps_go_on();
     moments_stand::moments_stand();
     phase_order::phases_follow();
     lockstep_phase::slots_are_counted();
     let _plan = setup.plan();
     'phases: while room.before.phase() + 1 < last {
-        all_through_phase(alloc, setup, view, room, now, faults, steps)?;
+        all_through_phase(alloc, setup, view, room, touches, now, faults, steps)?;
         if !some_goes(faults) {
             return Ok(());
         }
         take_turn(setup, view, room)?;
         turn_each(alloc, setup, &room.before, faults, now)?;
     }
-    all_through_phase(alloc, setup, view, room, now, faults, steps)?;
+    all_through_phase(alloc, setup, view, room, touches, now, faults, steps)?;
     ascending_each(faults);
     Ok(())
 }
 
 /// Faults that entered a slot of a window go through it in lockstep with the good machine, side by side. Those of which a process does otherwise than the good machine's, or may
-/// race, leave it, and go no longer. The counter rises by at most the process steps of the faults' own blocks.
+/// race, leave it, and go no longer. The counter rises by at most the process steps of the faults' own blocks. What `touches` knows of the
+/// window is used, and more is put to it.
 ///
 /// # Errors
 ///
@@ -119,6 +122,7 @@ pub fn all_through_slot<N: World, L: Ledger>(
     setup: &Setup<'_, N>,
     view: &LockstepWindow<'_, N>,
     room: &mut LockstepRoom<'_, N>,
+    touches: &mut NextTouches<N>,
     faults: &mut Vec<FaultBeside>,
     slot: u32,
     steps: &mut Steps<L>,
@@ -138,5 +142,7 @@ pub fn all_through_slot<N: World, L: Ledger>(
     let now = view.window.slot_time(slot);
     let last = view.window.phases_before(next);
     go_to_slot(setup, view, room, slot)?;
-    go_through_phases(alloc, setup, view, room, faults, slot, now, last, steps)
+    go_through_phases(
+        alloc, setup, view, room, touches, faults, slot, now, last, steps,
+    )
 }

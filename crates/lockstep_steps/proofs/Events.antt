@@ -10,8 +10,8 @@ use Rattle.machine_laws.specs.SlotLoop.{Moment, after_event, after_events, steps
 use Rattle.copy_laws.specs.Beside.{AreFirst}
 use Rattle.phase_order.specs.Order.{ComeNext, FirstEventsSplit, PhasesFollow, phase_steps}
 use Rattle.order_laws.proofs.ToFront.{happened-append}
-use Rattle.lockstep_slots.specs.Places.{Place, IsPlaceOf, IsFineSlot, state_there, steps_left, behind_events, next_phase}
-use Rattle.lockstep_slots.proofs.Followed.{all-passed, followed}
+use Rattle.lockstep_notes.specs.lockstep_slots.Places.{Place, IsPlaceOf, IsFineSlot, state_there, steps_left, behind_events, next_phase}
+use Rattle.lockstep_notes.proofs.lockstep_slots.Followed.{all-passed, followed}
 
 -- Behind some events
 

@@ -29,15 +29,15 @@ use Rattle.lockstep_laws.specs.Lockstep.{LockstepIsBeside}
 use Rattle.lockstep_laws.specs.Passing.{AreFree}
 use Rattle.lockstep_laws.specs.Phases.{IsInPhase}
 use Rattle.lockstep_race.specs.Alike.{AlikeGoesOn, AreAlike}
-use Rattle.lockstep_slots.specs.Kept.{LockstepKept, kept_of, kept_within}
-use Rattle.lockstep_slots.specs.Pairs.{unlike_pair}
-use Rattle.lockstep_slots.specs.Places.{Place, state_there, moment_there, steps_left, first_place, behind_events, next_phase}
-use Rattle.lockstep_slots.specs.Standing.{BlocksDiffer, SlotsInLockstep}
-use Rattle.lockstep_slots.proofs.Followed.{first-phase}
+use Rattle.lockstep_notes.specs.lockstep_slots.Kept.{LockstepKept, kept_of, kept_within}
+use Rattle.lockstep_notes.specs.lockstep_slots.Pairs.{unlike_pair}
+use Rattle.lockstep_notes.specs.lockstep_slots.Places.{Place, state_there, moment_there, steps_left, first_place, behind_events, next_phase}
+use Rattle.lockstep_notes.specs.lockstep_slots.Standing.{BlocksDiffer, SlotsInLockstep}
+use Rattle.lockstep_notes.proofs.lockstep_slots.Followed.{first-phase}
 use Rattle.lockstep_copies.specs.Copies.{CopiesGoInLockstep, IsCopyInLockstep, own_begins}
 use Rattle.lockstep_waits.specs.Texts.{WaitsGoOn}
 use Rattle.wait_index.specs.Waits.{WaitsAreOfBodies}
-use Rattle.window_places.specs.Windows.{PlacesInWindows, TablesLeave}
+use Rattle.lockstep_notes.specs.window_places.Windows.{PlacesInWindows, TablesLeave}
 use Rattle.race_notes.specs.Notes.{NotesKept, HasNoNotes}
 use Rattle.lockstep_notes.specs.Beside.{BeginAlike, TakesIn}
 use Rattle.lockstep_notes.specs.Laws.{NotesGoOn}

@@ -7,10 +7,10 @@ use Rattle.machine_laws.specs.SlotLoop.{Moment}
 use Rattle.block_filter.specs.Blocks.{BlockPair}
 use Rattle.race_laws.specs.Writes.{WritesAreOf}
 use Rattle.lockstep_race.specs.Alike.{AreAlike}
-use Rattle.lockstep_slots.specs.Kept.{LockstepKept}
-use Rattle.lockstep_slots.specs.Places.{Place, state_there, steps_left}
-use Rattle.lockstep_slots.specs.Standing.{StandsInLockstep}
-use Rattle.window_places.specs.Windows.{IsAtMoment}
+use Rattle.lockstep_notes.specs.lockstep_slots.Kept.{LockstepKept}
+use Rattle.lockstep_notes.specs.lockstep_slots.Places.{Place, state_there, steps_left}
+use Rattle.lockstep_notes.specs.lockstep_slots.Standing.{StandsInLockstep}
+use Rattle.lockstep_notes.specs.window_places.Windows.{IsAtMoment}
 use Rattle.race_notes.specs.Notes.{NotesKept}
 use Rattle.lockstep_notes.specs.Notes.{NotesTell, marks_of}
 use Rattle.moments_stand.specs.Standing.{AllMayStand}

@@ -16,12 +16,12 @@ use Rattle.phase_blocks.specs.Blocks.{IsBetweenRuns, IsWholeBlock}
 use Rattle.trace_window.specs.Moments.{window_events}
 use Rattle.wait_index.specs.Waits.{WaitsAreOfBodies}
 use Rattle.own_told.specs.Told.{MayCauseAlike}
-use Rattle.lockstep_slots.specs.Kept.{LockstepKept, kept_of, turned_kept, AreJustKept}
-use Rattle.lockstep_slots.specs.Pairs.{unlike_pair, LeavesNoConflict}
-use Rattle.lockstep_slots.specs.Places.{Place, state_there, steps_left, first_place, behind_events, next_phase}
-use Rattle.lockstep_slots.specs.Standing.{BlocksDiffer}
+use Rattle.lockstep_notes.specs.lockstep_slots.Kept.{LockstepKept, kept_of, turned_kept, AreJustKept}
+use Rattle.lockstep_notes.specs.lockstep_slots.Pairs.{unlike_pair, LeavesNoConflict}
+use Rattle.lockstep_notes.specs.lockstep_slots.Places.{Place, state_there, steps_left, first_place, behind_events, next_phase}
+use Rattle.lockstep_notes.specs.lockstep_slots.Standing.{BlocksDiffer}
 use Rattle.lockstep_copies.specs.Copies.{IsCopyInLockstep, own_begins}
-use Rattle.window_places.specs.Windows.{TablesLeave}
+use Rattle.lockstep_notes.specs.window_places.Windows.{TablesLeave}
 use Rattle.race_notes.specs.Notes.{NotesKept, HasNoNotes}
 use Rattle.lockstep_notes.specs.Beside.{BeginAlike, TakesIn}
 use Rattle.lockstep_notes.specs.Notes.{NotesTell, marks_of}

@@ -9,6 +9,8 @@
 
 ghost use Rattle.lockstep_steps.specs.Laws.{StepsGoOn};
 
+pub use lockstep_notes::{Standing, note_block};
+
 /// A slot in lockstep from step to step.
 pub fn steps_go_on()
     ensures { StepsGoOn }
@@ -20,11 +22,11 @@ pub fn steps_go_on()
     lockstep_laws::lockstep_is_beside();
     lockstep_notes::notes_go_on();
     lockstep_race::pairs_tell();
-    lockstep_slots::slots_in_lockstep();
+    lockstep_notes::slots_in_lockstep();
     lockstep_waits::only_texts_wait();
     moments_stand::moments_stand();
     own_blocks::run_blocks_are_whole();
     phase_order::phases_follow();
     race_laws::writes_stay();
-    window_places::places_in_windows();
+    lockstep_notes::places_in_windows();
 }

@@ -8,9 +8,9 @@ use Rattle.vf_base.specs.declared.ids.ProcId.{ProcId}
 use Rattle.v_design.specs.Assignments.{ValueUpdate}
 use Rattle.copy_laws.specs.Differences.{Ascend, own_of}
 use Rattle.copy_state.specs.Entries.{first_from}
-use Rattle.copy_skip.specs.Entries.{next-kept, none-from}
-use Rattle.lockstep_copy.specs.Kept.{kept_by}
-use Rattle.lockstep_copy.specs.declared.own.LockstepCopy.{LockstepCopy}
+use Rattle.phase_faults.specs.copy_skip.Entries.{next-kept, none-from}
+use Rattle.phase_faults.specs.lockstep_copy.Kept.{kept_by}
+use Rattle.phase_faults.specs.lockstep_copy.declared.own.LockstepCopy.{LockstepCopy}
 use Rattle.phase_faults.specs.slot_laws.Slots.{KeepsRest, TurnsOne, turned_beside}
 use Rattle.phase_faults.proofs.slot_laws.Going.{mapped-some}
 

@@ -4,10 +4,10 @@ use Rattle.v_design.specs.Designs.{FlatDesign, TestPlan, good_machine}
 use Rattle.v_design.specs.Grades.{Phase}
 use Rattle.v_design.specs.Runs.{FirstSlot, turned_by}
 use Rattle.v_design.specs.States.{turn_of}
-use Rattle.block_skip.specs.Blocks.{AreProcesses}
-use Rattle.block_events.specs.declared.runner.Runner.{Runner}
-use Rattle.block_events.specs.Runners.{IsWhole, machine_of, state_of}
-use Rattle.lockstep_slots.specs.Places.{IsFineSlot, IsPlaceOf, Place}
+use Rattle.phase_faults.specs.block_skip.Blocks.{AreProcesses}
+use Rattle.phase_faults.specs.block_events.declared.runner.Runner.{Runner}
+use Rattle.phase_faults.specs.block_events.Runners.{IsWhole, machine_of, state_of}
+use Rattle.phase_faults.specs.lockstep_slots.Places.{IsFineSlot, IsPlaceOf, Place}
 use Rattle.phase_faults.specs.moment_laws.Passing.{TakesTurn}
 use Rattle.phase_faults.specs.moment_laws.Shown.{MomentKept}
 use Rattle.race_notes.specs.Notes.{HasNoNotes}

@@ -5,14 +5,15 @@ ghost use Rattle.std.specs.List.{AllZip};
 ghost use Rattle.vf_base.specs.Base.{process_number};
 ghost use Rattle.vf_base.specs.Lists.{AllHold};
 ghost use Rattle.v_design.specs.Grades.{Phase};
-ghost use Rattle.block_skip.specs.Blocks.{AreProcesses};
-ghost use Rattle.lockstep_slots.specs.Places.{Place};
+ghost use Rattle.phase_faults.specs.block_skip.Blocks.{AreProcesses};
+ghost use Rattle.phase_faults.specs.lockstep_slots.Places.{Place};
 ghost use Rattle.phase_faults.specs.slot_laws.Slots.{IsRoomIn, TurnsAll, TurnsOne};
 ghost use Rattle.lockstep_turn.specs.Turning.{MayTurnBeside, RoomMayTurn, RoomTurns, TurnsBeside};
 
 use good_trace::Setup;
-use lockstep_copy::{LockstepCopy, turn_writes};
-use phase_faults::{FaultBeside, GoodMoment, LockstepRoom, LockstepWindow};
+use phase_faults::{
+    FaultBeside, GoodMoment, LockstepCopy, LockstepRoom, LockstepWindow, turn_writes,
+};
 use std::alloc::Global;
 use v_design::World;
 use vf_base::{NoMemory, ProcId};

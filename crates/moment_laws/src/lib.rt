@@ -9,6 +9,11 @@
 ghost use Rattle.moment_laws.specs.Begins.{SlotsAreShown};
 ghost use Rattle.moment_laws.specs.Turns.{TurnsAreShown};
 
+pub use lockstep_places::{limits_tell, places_are_told};
+pub use moment_runs::{place_behind, take_runs};
+pub use window_places::places_in_windows;
+pub use window_wakes::{Wake, WindowWakes};
+
 /// The beginning of a slot is shown by what its window tells of the state before it.
 pub fn slots_are_shown()
     ensures { SlotsAreShown }

@@ -6,4 +6,8 @@
 
 mod shown;
 
+pub use lockstep_compare::{Processes, comparisons_tell, keep_all_writes, keep_values};
+pub use lockstep_exchange::{
+    LockstepCopy, begin_slot, kept_ends, lanes_tell_turns, put_in, take_out, turn_writes,
+};
 pub use shown::{ShownBlock, ShownMoment};

@@ -8,6 +8,10 @@
 
 ghost use Rattle.outputs_exist.specs.Existing.{ReportsExist, DictionaryOutputsExist, CertificatesExist, FaultsTextsExist};
 
+pub use cert_report::{CertifyFault, MAX_CERT_BYTES, audit_output, certify_output};
+pub use dict_report::{OutputFault, diagnose_output, dict_output, pick_output};
+pub use plan_report::{Extent, ReportFault, plan_report};
+
 /// Where the good machine never loops before a race of its own, there are the report on a text that spells a plan, each output over a dictionary, and the certificate of
 /// each listed fault. No design is without the list of its faults.
 pub fn outputs()

@@ -8,9 +8,8 @@ use std::process::Abort;
 use std::sync::ledger::{Blank, Ledger};
 use std::test::Fail;
 use std::thread::Threads;
-use top_call::{COUNTERS, counters, vfault};
+use top_call::{COUNTERS, Status, code, counters, line, vfault};
 use vf_base::{Gate, MemShelf, MemSink};
-use vf_status::{Status, code, line};
 
 mod boards;
 mod limits;

@@ -23,20 +23,20 @@ use Rattle.phase_blocks.proofs.Lists.{happened-append}
 use Rattle.block_changes.specs.Changes.{ends_wait_of, steps_process, steps_lane, parts_changed}
 use Rattle.block_ends.specs.Ends.{IsLastOf}
 use Rattle.boundary_ends.proofs.Counts.{enders-append}
-use Rattle.moment_runs.specs.Taken.{ProcessesKept, count_of, appended_behind, AreRunsTaken, StandsBehind}
+use Rattle.shown_blocks.specs.moment_runs.Taken.{ProcessesKept, count_of, appended_behind, AreRunsTaken, StandsBehind}
 use Rattle.trace_window.specs.Moments.{window_events}
-use Rattle.window_places.specs.Passing.{events_before}
-use Rattle.window_places.specs.Windows.{IsAtMoment}
-use Rattle.window_wakes.specs.Wakes.{WakeTold}
-use Rattle.lockstep_slots.specs.Places.{Place, state_there, behind_events}
-use Rattle.lockstep_places.specs.Places.{IsPlaceIn}
-use Rattle.moment_laws.specs.Passing.{PassesBlock}
-use Rattle.moment_laws.specs.Places.{runs_before}
-use Rattle.moment_laws.specs.Shown.{MomentKept, ShowsState, processes_in, is_lane}
-use Rattle.moment_laws.specs.Steps.{woken_within, slot_enders, SameButTaken, Takes}
+use Rattle.shown_blocks.specs.window_places.Passing.{events_before}
+use Rattle.shown_blocks.specs.window_places.Windows.{IsAtMoment}
+use Rattle.shown_blocks.specs.window_wakes.Wakes.{WakeTold}
+use Rattle.shown_blocks.specs.lockstep_slots.Places.{Place, state_there, behind_events}
+use Rattle.shown_blocks.specs.lockstep_places.Places.{IsPlaceIn}
+use Rattle.shown_blocks.specs.moment_laws.Passing.{PassesBlock}
+use Rattle.shown_blocks.specs.moment_laws.Places.{runs_before}
+use Rattle.shown_blocks.specs.moment_laws.Shown.{MomentKept, ShowsState, processes_in, is_lane}
+use Rattle.shown_blocks.specs.moment_laws.Steps.{woken_within, slot_enders, SameButTaken, Takes}
 use Rattle.shown_blocks.specs.Blocks.{BlockAt}
 use Rattle.passed_blocks.proofs.Bounds.{acted-low, lanes-low, all-low}
-use Rattle.moment_laws.proofs.Moved.{move4}
+use Rattle.shown_blocks.proofs.moment_laws.Moved.{move4}
 use Rattle.shown_blocks.proofs.Behind.{stepper-stands, later-behind, lanes-first, lane-count, drop-one, past-idle}
 use Rattle.shown_blocks.proofs.Ended.{enders-stepped, ended-count, some-steps, no-steps}
 use Rattle.shown_blocks.proofs.Passed.{BlockLaws, enders-there, one-front}

@@ -6,14 +6,14 @@ use Rattle.slot_record.specs.Records.{event_of}
 use Rattle.between_slots.specs.Between.{window_phases}
 use Rattle.trace_window.specs.Moments.{window_events}
 use Rattle.window_blocks.specs.Kept.{BlocksKept, AreBlocksOf}
-use Rattle.window_wakes.specs.Wakes.{WakesKept, AreWakesOf, woken_at}
-use Rattle.lockstep_slots.specs.Places.{Place}
+use Rattle.shown_blocks.specs.window_wakes.Wakes.{WakesKept, AreWakesOf, woken_at}
+use Rattle.shown_blocks.specs.lockstep_slots.Places.{Place}
 use Rattle.shown_blocks.specs.Ahead.{IsAhead}
 use Rattle.shown_blocks.specs.Blocks.{AreItsBlocks, IsBlockTold, HasBlockTo, BlocksAreAhead}
-use Rattle.moment_laws.specs.Passing.{HasBlock, PassesBlock}
-use Rattle.moment_laws.specs.Places.{IsShownAt, IsInWindow}
-use Rattle.moment_laws.specs.Shown.{MomentKept}
-use Rattle.moment_laws.specs.Steps.{untold, PutsBlock, CanTake, Takes}
+use Rattle.shown_blocks.specs.moment_laws.Passing.{HasBlock, PassesBlock}
+use Rattle.shown_blocks.specs.moment_laws.Places.{IsShownAt, IsInWindow}
+use Rattle.shown_blocks.specs.moment_laws.Shown.{MomentKept}
+use Rattle.shown_blocks.specs.moment_laws.Steps.{untold, PutsBlock, CanTake, Takes}
 use Rattle.passed_blocks.specs.Passed.{at_moment, BlocksArePassed, BlocksCanBeTaken}
 
 -- the blocks of the window of what is shown

@@ -23,17 +23,17 @@ use Rattle.boundary_ends.proofs.Counts.{enders-append}
 use Rattle.phase_blocks.proofs.Taken.{takes-step, takes-lane, takes-node, ready-first, lane-first}
 use Rattle.phase_blocks.specs.Blocks.{IsWholeBlock, PhasesEndBetweenRuns}
 use Rattle.phase_order.specs.Order.{PhasesFollow, phase_steps}
-use Rattle.moment_runs.proofs.Taking.{count-append}
-use Rattle.moment_parts.specs.StatesKept.{AreStatesOf}
-use Rattle.moment_runs.specs.Taken.{count_of}
-use Rattle.moment_parts.specs.Within.{AreWoken, IsWokenIf}
-use Rattle.lockstep_slots.specs.Places.{Place, IsPlaceOf, state_there}
-use Rattle.window_wakes.specs.Wakes.{WakeTold}
-use Rattle.moment_laws.specs.Places.{IsShownAt, IsSlotInOrder}
-use Rattle.moment_laws.specs.Shown.{MomentKept}
-use Rattle.moment_laws.specs.Steps.{untold, woken_within, PutsBlock, CanTake, slot_enders}
+use Rattle.shown_blocks.proofs.moment_runs.Taking.{count-append}
+use Rattle.shown_blocks.specs.moment_parts.StatesKept.{AreStatesOf}
+use Rattle.shown_blocks.specs.moment_runs.Taken.{count_of}
+use Rattle.shown_blocks.specs.moment_parts.Within.{AreWoken, IsWokenIf}
+use Rattle.shown_blocks.specs.lockstep_slots.Places.{Place, IsPlaceOf, state_there}
+use Rattle.shown_blocks.specs.window_wakes.Wakes.{WakeTold}
+use Rattle.shown_blocks.specs.moment_laws.Places.{IsShownAt, IsSlotInOrder}
+use Rattle.shown_blocks.specs.moment_laws.Shown.{MomentKept}
+use Rattle.shown_blocks.specs.moment_laws.Steps.{untold, woken_within, PutsBlock, CanTake, slot_enders}
 use Rattle.shown_blocks.specs.Blocks.{BlockAt}
-use Rattle.moment_laws.proofs.Following.{followed, slot-order}
+use Rattle.shown_blocks.proofs.moment_laws.Following.{followed, slot-order}
 use Rattle.passed_blocks.proofs.Bounds.{ready-low, lane-low}
 use Rattle.shown_blocks.proofs.Ended.{ended-count, process-runs-few}
 use Rattle.shown_blocks.proofs.Passed.{BlockLaws, enders-there}

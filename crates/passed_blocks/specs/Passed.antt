@@ -2,13 +2,13 @@
 use Rattle.std.specs.Prelude.{◌≡◌, ℕ, List, ◌∷◌}
 use Rattle.v_design.specs.Designs.{FlatDesign, TestPlan, good_machine}
 use Rattle.v_design.specs.States.{Event}
-use Rattle.window_wakes.specs.Wakes.{WakeTold}
-use Rattle.lockstep_slots.specs.Places.{Place}
+use Rattle.shown_blocks.specs.window_wakes.Wakes.{WakeTold}
+use Rattle.shown_blocks.specs.lockstep_slots.Places.{Place}
 use Rattle.shown_blocks.specs.Blocks.{BlockAt}
-use Rattle.moment_laws.specs.Passing.{PassesBlock}
-use Rattle.moment_laws.specs.Places.{IsShownAt}
-use Rattle.moment_laws.specs.Shown.{MomentKept}
-use Rattle.moment_laws.specs.Steps.{untold, PutsBlock, CanTake}
+use Rattle.shown_blocks.specs.moment_laws.Passing.{PassesBlock}
+use Rattle.shown_blocks.specs.moment_laws.Places.{IsShownAt}
+use Rattle.shown_blocks.specs.moment_laws.Shown.{MomentKept}
+use Rattle.shown_blocks.specs.moment_laws.Steps.{untold, PutsBlock, CanTake}
 use Rattle.shown_blocks.specs.Passages.{Passage}
 
 -- what is shown at a moment of the window, all else as it is

@@ -7,6 +7,11 @@
 
 ghost use Rattle.passed_blocks.specs.Passed.{BlocksArePassed, BlocksCanBeTaken};
 
+pub use shown_blocks::{
+    Wake, WindowWakes, blocks_are_ahead, limits_tell, place_behind, places_are_told,
+    slots_are_shown, take_runs, turns_are_shown,
+};
+
 /// What a block takes is there, and the state behind the block is shown when it is taken.
 pub fn blocks_are_passed()
     ensures take { BlocksCanBeTaken }
@@ -14,8 +19,8 @@ pub fn blocks_are_passed()
 {
     phase_order::phases_follow();
     phase_blocks::blocks_are_told();
-    lockstep_places::places_are_told();
-    window_places::places_in_windows();
+    shown_blocks::places_are_told();
+    shown_blocks::places_in_windows();
     block_changes::events_are_told();
     block_states::blocks_leave();
     block_ends::ends_of_blocks();

@@ -5,11 +5,11 @@ use Rattle.std.proofs.lemmas.List.{length-drop}
 use Rattle.v_design.specs.Designs.{FlatDesign, TestPlan}
 use Rattle.v_design.specs.Plain.{fault_of, site_of}
 use Rattle.v_design.specs.declared.plan.Fault.{Fault}
-use Rattle.block_events.specs.declared.runner.Runner.{Runner}
-use Rattle.copy_skip.specs.Limits.{SiteIsThere}
+use Rattle.slot_laws.specs.block_events.declared.runner.Runner.{Runner}
+use Rattle.slot_laws.specs.copy_skip.Limits.{SiteIsThere}
 use Rattle.slot_laws.specs.lockstep_room.declared.counts.Counts.{Counts}
 use Rattle.slot_laws.specs.lockstep_room.Rooms.{AreCounts}
-use Rattle.lockstep_slots.specs.Places.{Place}
+use Rattle.slot_laws.specs.lockstep_slots.Places.{Place}
 use Rattle.slot_laws.specs.moment_laws.Shown.{MomentKept}
 use Rattle.slot_laws.specs.Slots.{HasComeOn, IsRoomIn, PhaseEndsAt, SlotGoesOn, further}
 use Rattle.slot_laws.proofs.Further.{further-more, further-none}

@@ -9,13 +9,13 @@ use Rattle.v_design.specs.Plain.{fault_of, site_of}
 use Rattle.v_design.specs.Runs.{FirstSlot}
 use Rattle.v_design.specs.States.{State}
 use Rattle.between_slots.specs.Between.{window_phases}
-use Rattle.block_events.specs.declared.runner.Runner.{Runner}
+use Rattle.slot_laws.specs.block_events.declared.runner.Runner.{Runner}
 use Rattle.slot_laws.specs.lockstep_block.Rooms.{CanFollow, IsRunnerAt}
 use Rattle.slot_laws.specs.lockstep_places.Limits.{LimitsTell}
 use Rattle.slot_laws.specs.lockstep_places.Places.{PlacesTold}
 use Rattle.slot_laws.specs.lockstep_room.declared.counts.Counts.{Counts}
 use Rattle.slot_laws.specs.lockstep_room.Rooms.{AreCounts}
-use Rattle.lockstep_slots.specs.Places.{Place, behind_events}
+use Rattle.slot_laws.specs.lockstep_slots.Places.{Place, behind_events}
 use Rattle.slot_laws.specs.lockstep_steps.Laws.{StepsGoOn}
 use Rattle.slot_laws.specs.moment_laws.Passing.{PassesBlock}
 use Rattle.slot_laws.specs.moment_laws.Places.{IsShownAt}
@@ -34,7 +34,7 @@ use Rattle.phase_faults.specs.Beside.{FaultsMayGo, HasComeBeside, HaveGoneOn, Is
 use Rattle.phase_faults.specs.declared.beside.FaultBeside.{FaultBeside}
 use Rattle.phase_faults.proofs.Lists.{hold-both, hold-map, zip-same, zip-with}
 use Rattle.phase_faults.proofs.Sooner.{fold-least, fold-stop}
-use Rattle.phase_faults.proofs.Untouched.{left-within}
+use Rattle.next_touches.proofs.Untouched.{left-within}
 
 -- the laws of the crates below
 pub record PhaseLaws : Type 0 where

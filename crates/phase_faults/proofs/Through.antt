@@ -9,21 +9,21 @@ use Rattle.v_design.specs.Plain.{fault_of, site_of}
 use Rattle.v_design.specs.Runs.{FirstSlot}
 use Rattle.v_design.specs.States.{State}
 use Rattle.machine_laws.specs.SlotLoop.{slot_from}
-use Rattle.machine.specs.Ticks.{process_steps, steps_so_far}
-use Rattle.block_events.specs.declared.runner.Runner.{Runner}
-use Rattle.copy_skip.specs.Limits.{SiteIsThere}
+use Rattle.slot_laws.specs.machine.Ticks.{process_steps, steps_so_far}
+use Rattle.slot_laws.specs.block_events.declared.runner.Runner.{Runner}
+use Rattle.slot_laws.specs.copy_skip.Limits.{SiteIsThere}
 use Rattle.slot_laws.specs.lockstep_block.declared.room.FaultInSlot.{FaultInSlot}
-use Rattle.lockstep_copy.specs.declared.own.LockstepCopy.{LockstepCopy}
+use Rattle.slot_laws.specs.lockstep_copy.declared.own.LockstepCopy.{LockstepCopy}
 use Rattle.slot_laws.specs.lockstep_filter.Phases.{IsPhaseNoted}
 use Rattle.slot_laws.specs.lockstep_places.Places.{PlacesTold}
 use Rattle.slot_laws.specs.lockstep_room.declared.counts.Counts.{Counts}
 use Rattle.slot_laws.specs.lockstep_room.Rooms.{AreCounts}
-use Rattle.lockstep_slots.specs.Places.{Place}
+use Rattle.slot_laws.specs.lockstep_slots.Places.{Place}
 use Rattle.slot_laws.specs.lockstep_steps.Laws.{StepsGoOn}
 use Rattle.slot_laws.specs.moment_laws.Shown.{MomentKept}
 use Rattle.race_notes.specs.Notes.{NotesKept}
-use Rattle.graded_steps.specs.Behind.{RisesWithin}
-use Rattle.slot_steps.specs.Laws.{SlotStepsGoOn}
+use Rattle.slot_laws.specs.graded_steps.Behind.{RisesWithin}
+use Rattle.slot_laws.specs.slot_steps.Laws.{SlotStepsGoOn}
 use Rattle.window_blocks.specs.Kept.{AreBlocksOf, BlocksKept}
 use Rattle.slot_laws.specs.Slots.{IsRoomIn, PhaseEndsAt, SlotGoesOn, SlotMayGoOn, further}
 use Rattle.slot_laws.proofs.Further.{further-all}

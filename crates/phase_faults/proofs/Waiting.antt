@@ -2,14 +2,14 @@
 use Rattle.std.proofs.Common.{◌≡◌, ℕ, ◌<◌, ◌≤◌, List, refl, sym, ap, subst, ◌∙◌}
 use Rattle.v_design.specs.Designs.{FlatDesign, StuckAt, TestPlan}
 use Rattle.v_design.specs.Plain.{fault_of}
-use Rattle.block_events.specs.declared.runner.Runner.{Runner}
+use Rattle.slot_laws.specs.block_events.declared.runner.Runner.{Runner}
 use Rattle.slot_laws.specs.lockstep_block.Blocks.{FaultGoes}
 use Rattle.slot_laws.specs.lockstep_block.Own.{MayRunOwn}
 use Rattle.slot_laws.specs.lockstep_block.Rooms.{IsRunnerAt, MayStandThere}
-use Rattle.lockstep_copy.specs.declared.own.LockstepCopy.{LockstepCopy}
+use Rattle.slot_laws.specs.lockstep_copy.declared.own.LockstepCopy.{LockstepCopy}
 use Rattle.slot_laws.specs.lockstep_room.declared.counts.Counts.{Counts}
 use Rattle.slot_laws.specs.lockstep_room.Rooms.{AreCounts}
-use Rattle.lockstep_slots.specs.Places.{Place, behind_events}
+use Rattle.slot_laws.specs.lockstep_slots.Places.{Place, behind_events}
 use Rattle.slot_laws.specs.moment_laws.Passing.{TellsPassed}
 use Rattle.slot_laws.specs.moment_laws.Places.{IsShownAt}
 use Rattle.slot_laws.specs.moment_laws.Shown.{MomentKept}

@@ -8,22 +8,22 @@ use Rattle.v_design.specs.Runs.{FirstSlot}
 use Rattle.v_design.specs.States.{State}
 use Rattle.v_design.specs.declared.plan.Fault.{Fault}
 use Rattle.machine_laws.specs.SlotLoop.{Moment, slot_from}
-use Rattle.machine.specs.Ticks.{process_steps}
+use Rattle.slot_laws.specs.machine.Ticks.{process_steps}
 use Rattle.trace_window.specs.Moments.{window_events}
-use Rattle.block_events.specs.declared.runner.Runner.{Runner}
+use Rattle.slot_laws.specs.block_events.declared.runner.Runner.{Runner}
 use Rattle.block_filter.specs.Blocks.{BlockPair}
-use Rattle.block_skip.specs.Blocks.{AreProcesses, LeftAlone}
-use Rattle.copy_skip.specs.Limits.{AreThere, SiteIsThere}
+use Rattle.slot_laws.specs.block_skip.Blocks.{AreProcesses, LeftAlone}
+use Rattle.slot_laws.specs.copy_skip.Limits.{AreThere, SiteIsThere}
 use Rattle.slot_laws.specs.lockstep_block.Blocks.{FaultGoes}
 use Rattle.slot_laws.specs.lockstep_block.Own.{MayRunOwn}
 use Rattle.slot_laws.specs.lockstep_block.Rooms.{IsRunnerAt}
-use Rattle.lockstep_copy.specs.declared.own.LockstepCopy.{LockstepCopy}
+use Rattle.slot_laws.specs.lockstep_copy.declared.own.LockstepCopy.{LockstepCopy}
 use Rattle.slot_laws.specs.lockstep_filter.Phases.{IsPhaseNoted}
 use Rattle.slot_laws.specs.lockstep_notes.Notes.{marks_of}
 use Rattle.slot_laws.specs.lockstep_room.declared.counts.Counts.{Counts}
 use Rattle.slot_laws.specs.lockstep_room.Rooms.{AreCounts}
-use Rattle.lockstep_slots.specs.Pairs.{LeavesNoConflict}
-use Rattle.lockstep_slots.specs.Places.{Place, behind_events}
+use Rattle.slot_laws.specs.lockstep_slots.Pairs.{LeavesNoConflict}
+use Rattle.slot_laws.specs.lockstep_slots.Places.{Place, behind_events}
 use Rattle.slot_laws.specs.moment_laws.Places.{IsShownAt}
 use Rattle.slot_laws.specs.moment_laws.Shown.{MomentKept}
 use Rattle.slot_laws.specs.Slots.{HasComeOn, IsRoomIn, IsStop, KeepsRest, PhaseEndsAt, PhaseIsThrough, SlotGoesOn, SlotMayGoOn, further}

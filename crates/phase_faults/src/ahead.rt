@@ -5,28 +5,27 @@ ghost use Rattle.std.specs.List.{AllZip, fold};
 ghost use Rattle.vf_base.specs.Lists.{AllHold, has};
 ghost use Rattle.v_design.specs.Plain.{site_of};
 ghost use Rattle.trace_window.specs.Moments.{window_events};
-ghost use Rattle.copy_skip.specs.Limits.{AreThere, SiteIsThere};
-ghost use Rattle.block_skip.specs.Blocks.{AreProcesses, LeftAlone};
-ghost use Rattle.slot_laws.specs.Slots.{AreOfOneWindow};
+ghost use Rattle.slot_laws.specs.copy_skip.Limits.{AreThere, SiteIsThere};
+ghost use Rattle.slot_laws.specs.block_skip.Blocks.{AreProcesses, LeftAlone};
 ghost use Rattle.phase_faults.specs.Beside.{HasSite, IsThereIf, LooksAhead, sooner_of};
 
 use crate::beside::FaultBeside;
 use crate::view::LockstepWindow;
-use block_skip::next_touched_block;
 use good_trace::Setup;
-use lockstep_copy::LockstepCopy;
+use next_touches::NextTouches;
+use slot_laws::LockstepCopy;
 use v_design::{Fault, World};
 
-/// The moment up to which all events from a moment on, with which a block begins, leave alone what is kept of a fault; at most the end of the phase.
+/// The moment up to which all events from a moment on leave alone what is kept of a fault, if not the beginning of a block before; at most the end of the phase.
 fn untouched_until<N: World>(
     setup: &Setup<'_, N>,
     view: &LockstepWindow<'_, N>,
+    touches: &mut NextTouches<N>,
     fault: Fault,
     own: &LockstepCopy,
     moment: u32,
     end: u32,
 ) -> u32
-    requires window { AreOfOneWindow view.now.window.now view.now.blocks.now view.now.wakes.now }
     requires objects { AreThere N.design own.now.copy.values }
     requires site { SiteIsThere N.design (site_of fault.site) }
     requires processes { AreProcesses N.design own.now.copy.updates }
@@ -40,33 +39,29 @@ fn untouched_until<N: World>(
     if moment == end {
         return moment;
     }
-    let Some(from) = view.blocks.block_at(moment) else {
+    let limit = touches.copy_limit(setup, view.window, &own.copy, fault, moment, end);
+    if limit == end {
+        return limit;
+    }
+    let Some(block) = view.blocks.block_at(limit) else {
         return moment;
     };
-    let moments = view.blocks.moments();
-    if moments[from] != moment {
+    let begins = view.blocks.moments()[block];
+    if begins <= moment {
         return moment;
-    }
-    let block = next_touched_block(setup, view.window, view.blocks, &own.copy, fault, from);
-    if block >= moments.len() {
-        return end;
-    }
-    let begins = moments[block];
-    if end <= begins {
-        return end;
     }
     begins
 }
 
-/// Looks ahead from a moment on, with which a block begins, for a fault that still goes.
+/// Looks ahead from a moment on for a fault that still goes. What `touches` knows of the window is used, and more is put to it.
 pub fn look_ahead<N: World>(
     setup: &Setup<'_, N>,
     view: &LockstepWindow<'_, N>,
+    touches: &mut NextTouches<N>,
     each: &mut FaultBeside,
     moment: u32,
     end: u32,
 )
-    requires window { AreOfOneWindow view.now.window.now view.now.blocks.now view.now.wakes.now }
     requires site { HasSite N.design each.old }
     requires kept { IsThereIf N.design each.old }
     requires order { moment ≤ end }
@@ -77,7 +72,7 @@ pub fn look_ahead<N: World>(
     if !goes {
         return;
     }
-    let until = untouched_until(setup, view, each.fault, &each.one.own, moment, end);
+    let until = untouched_until(setup, view, touches, each.fault, &each.one.own, moment, end);
     each.until = until;
 }
 
@@ -85,11 +80,11 @@ pub fn look_ahead<N: World>(
 pub fn look_ahead_all<N: World>(
     setup: &Setup<'_, N>,
     view: &LockstepWindow<'_, N>,
+    touches: &mut NextTouches<N>,
     faults: &mut Vec<FaultBeside>,
     moment: u32,
     end: u32,
 )
-    requires window { AreOfOneWindow view.now.window.now view.now.blocks.now view.now.wakes.now }
     requires sites { AllHold (HasSite N.design) faults.old.items }
     requires kept { AllHold (IsThereIf N.design) faults.old.items }
     requires order { moment ≤ end }
@@ -98,7 +93,7 @@ pub fn look_ahead_all<N: World>(
 {
     'faults: for place in 0..faults.len() {
         let each = &mut faults[place];
-        look_ahead(setup, view, each, moment, end);
+        look_ahead(setup, view, touches, each, moment, end);
     }
 }
 

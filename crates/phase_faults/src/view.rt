@@ -1,9 +1,9 @@
 // A window with its blocks.
 
 use good_trace::TraceWindow;
+use slot_laws::WindowWakes;
 use v_design::World;
 use window_blocks::WindowBlocks;
-use window_wakes::WindowWakes;
 
 /// A window of the good machine's trace, with its blocks, and with the waits that its events end.
 #[derive_where(Clone, Copy)]

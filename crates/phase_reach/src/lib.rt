@@ -7,4 +7,7 @@
 
 mod reach;
 
+pub use lockstep_notes::{
+    Spans, is_read, is_written, object_count, pairs_are_told, places_in_windows,
+};
 pub use reach::{reach_all, reach_between, reach_phase};

@@ -10,7 +10,7 @@ use Rattle.plan_read.specs.Spelled.{Spells, Refuses}
 use Rattle.plan_read.specs.declared.fault.PlanFault.{PlanFault}
 use Rattle.plan_read.specs.declared.fault.PlanFault.TheVariants as plans
 use Rattle.plan_report.specs.declared.extent.Extent.{Extent}
-use Rattle.fault_grade.specs.Results.{LoopsAt, SpeaksOfOrders}
+use Rattle.shard_workers.specs.fault_grade.Results.{LoopsAt, SpeaksOfOrders}
 use Rattle.plan_report.specs.declared.fault.ReportFault.{ReportFault}
 use Rattle.plan_report.specs.declared.fault.ReportFault.TheVariants.{Plan, GoodLoop, NoMemory}
 use Rattle.plan_report.specs.Reports.{wanted_text, IsGoodLoop, Means, IsTheMeaning, HoldsInEveryOrder, plan_fault}

@@ -9,7 +9,7 @@ use Rattle.plan_read.specs.Spelled.{Spells, Refuses}
 use Rattle.plan_read.specs.declared.fault.PlanFault.{PlanFault}
 use Rattle.plan_read.specs.declared.fault.PlanFault.TheVariants as plans
 use Rattle.grade_report.specs.Report.{total_line, report_text}
-use Rattle.fault_grade.specs.Results.{LoopsAt, SpeaksOfOrders}
+use Rattle.shard_workers.specs.fault_grade.Results.{LoopsAt, SpeaksOfOrders}
 use Rattle.plan_report.specs.declared.extent.Extent.{Extent}
 use Rattle.plan_report.specs.declared.extent.Extent.TheVariants.{Lines, Totals}
 use Rattle.plan_report.specs.declared.fault.ReportFault.{ReportFault}

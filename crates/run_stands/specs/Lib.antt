@@ -1,1 +1,2 @@
 pub mod Standing
+pub use Rattle.machine.specs as machine

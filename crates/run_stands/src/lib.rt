@@ -7,6 +7,8 @@
 
 ghost use Rattle.run_stands.specs.Standing.{StatesStandBetween};
 
+pub use machine::Machine;
+
 /// The state of a first run between two of its slots is one into which a machine may be put.
 pub fn states_stand()
     ensures { StatesStandBetween }

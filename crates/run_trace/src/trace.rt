@@ -16,12 +16,23 @@ use window_blocks::BlockList;
 use window_wakes::WakeList;
 
 /// The good first run of the world `N` as it is pushed: its trace, and beside it the blocks and the wakes of the slots since the last close, before which so many stand.
-#[derive(Drop)]
 pub struct RunTrace<'s, 'd, N: World> {
     pub begins: u64,
     pub trace: Trace<'s, 'd, N>,
     pub blocks: BlockList<N>,
     pub wakes: WakeList<N>,
+}
+
+// Written out, so that its parts are let go of here alone.
+impl<'s, 'd, N: World> Drop for RunTrace<'s, 'd, N> {
+    fn drop(self) {
+        let RunTrace {
+            begins: _,
+            trace: _,
+            blocks: _,
+            wakes: _,
+        } = self;
+    }
 }
 
 impl<'s, 'd, N: World> RunTrace<'s, 'd, N> {

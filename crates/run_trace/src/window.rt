@@ -10,11 +10,21 @@ use window_wakes::WindowWakes;
 
 /// A window of the good first run of the world `N`, with its blocks and its wakes, which are of the same slots. Contracts see how many slots of the run stand before it, how
 /// many before its end, and how it ends.
-#[derive(Drop)]
 pub struct RunWindow<N: World> {
     pub(crate) window: TraceWindow<N>,
     pub(crate) blocks: WindowBlocks<N>,
     pub(crate) wakes: WindowWakes<N>,
+}
+
+// Written out, so that its parts are let go of here alone.
+impl<N: World> Drop for RunWindow<N> {
+    fn drop(self) {
+        let RunWindow {
+            window: _,
+            blocks: _,
+            wakes: _,
+        } = self;
+    }
 }
 
 impl<N: World> Model for RunWindow<N> {
@@ -32,11 +42,21 @@ impl<N: World> Model for RunWindow<N> {
 pub(crate) fn memory_of<N: World>(used: Option<RunWindow<N>>) -> Option<TraceWindow<N>> {
     match used {
         None => None,
-        Some(RunWindow { window, .. }) => Some(window),
+        Some(window) => Some(window.into_trace_window()),
     }
 }
 
 impl<N: World> RunWindow<N> {
+    /// What its trace told of its slots.
+    fn into_trace_window(self) -> TraceWindow<N> {
+        let RunWindow {
+            window,
+            blocks: _,
+            wakes: _,
+        } = self;
+        window
+    }
+
     /// What its trace tells of its slots.
     pub fn window(&self) -> &TraceWindow<N>
         ensures { result.now ≡ self.now }

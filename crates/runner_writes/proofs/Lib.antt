@@ -1,0 +1,1 @@
+pub use Rattle.block_events.proofs as block_events

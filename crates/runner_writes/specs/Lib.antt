@@ -1,1 +1,2 @@
 pub mod Each
+pub use Rattle.block_events.specs as block_events

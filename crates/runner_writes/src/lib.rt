@@ -6,4 +6,5 @@
 
 mod writes;
 
+pub use block_events::Runner;
 pub use writes::RunnerWrites;

@@ -11,7 +11,7 @@ use Rattle.fault_shards.specs.Representatives.{AreRepresentatives}
 use Rattle.verdict_words.specs.Seats.{view}
 use Rattle.verdict_words.specs.declared.board.Board.{Board}
 use Rattle.verdict_words.specs.declared.view.View.{View}
-use Rattle.shard_claims.specs.declared.round.ClaimedShard.{ClaimedShard}
+use Rattle.copy_shard.specs.declared.together.ClaimedShard.{ClaimedShard}
 use Rattle.shard_claims.specs.declared.worker.Worker.{Worker}
 use Rattle.shard_claims.specs.Workers.{numbers_of, IsClaimed, KeepsShards, HasClaimed, StandsBy, IsWorkerAt}
 use Rattle.shard_claims.specs.WorkerLaws.{has-claimed}

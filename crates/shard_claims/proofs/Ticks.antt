@@ -1,11 +1,10 @@
 -- The process steps of a worker's shards (steps by IEEE 1364-2001, clause 9; slots by clause 5).
-use Rattle.std.proofs.Common.{◌≡◌, ℕ, ◌+◌, ◌*◌, ◌<◌, ◌≤◌, Bool, true, false, cond, List, [], ◌∷◌, ◌++◌, length, get_or, set, sym, ap, ◌∙◌, arith}
-use Rattle.std.specs.Prelude.{sum_by}
-use Rattle.std.proofs.lemmas.List.Sums.{sum_by-set, sum_by_push}
+use Rattle.std.proofs.Common.{◌≡◌, ℕ, ◌+◌, ◌*◌, ◌≤◌, Bool, true, false, cond, List, [], ◌∷◌, ◌++◌, ap, ◌∙◌, arith}
+use Rattle.std.proofs.lemmas.List.Sums.{sum_by_push}
 use Rattle.v_design.specs.Designs.{FlatDesign, TestPlan}
 use Rattle.copy_shard.specs.Shards.{shard_steps}
-use Rattle.graded_steps.specs.Behind.{RisesTwice}
-use Rattle.shard_claims.specs.declared.round.ClaimedShard.{ClaimedShard}
+use Rattle.copy_shard.specs.graded_steps.Behind.{RisesTwice}
+use Rattle.copy_shard.specs.declared.together.ClaimedShard.{ClaimedShard}
 use Rattle.shard_claims.specs.declared.worker.Worker.{Worker}
 use Rattle.shard_claims.specs.Workers.{claimed_steps, worker_steps}
 
@@ -17,16 +16,6 @@ module _ {N : Type 0} where
       let sum : claimed_steps design plan new ≡ claimed_steps design plan old + shard_steps design plan more.shard =
       ap (claimed_steps design plan) is ∙ sum_by_push (λ (claimed : ClaimedShard N). shard_steps design plan claimed.shard) old more in
       omega (arith, sum, so_far, rises)
-
-  -- one shard goes through a window
-  pub claimed-set : (design : FlatDesign) (plan : TestPlan) (items : List (ClaimedShard N)) (place : ℕ) (old new : ClaimedShard N) (from before mid after : ℕ) → place < length items →
-      old ≡ get_or items place old → RisesTwice from (claimed_steps design plan items) before mid →
-      RisesTwice (shard_steps design plan old.shard) (shard_steps design plan new.shard) mid after → RisesTwice from (claimed_steps design plan (set items place new)) before after
-  claimed-set design plan items place old new from before mid after low read so_far rises =
-      let sum : claimed_steps design plan (set items place new) + shard_steps design plan (get_or items place old).shard ≡ claimed_steps design plan items + shard_steps design plan new.shard =
-      sum_by-set (λ (claimed : ClaimedShard N). shard_steps design plan claimed.shard) items place new old low in
-      let same : shard_steps design plan old.shard ≡ shard_steps design plan (get_or items place old).shard = ap (λ (claimed : ClaimedShard N). shard_steps design plan claimed.shard) read in
-      omega (arith, sum, same, so_far, rises)
 
   -- a worker
   steps-by : (design : FlatDesign) (plan : TestPlan) (worker : Worker N) (dry : Bool) → worker.dry ≡ dry → worker_steps design plan worker ≡ cond dry (claimed_steps design plan worker.shards.items) 0

@@ -1,8 +1,9 @@
 -- What workers have between rounds (slots by IEEE 1364-2001, clause 5).
-use Rattle.std.specs.Prelude.{◌≡◌, ℕ, Bool, true, false, IsTrue, List, [], map, length, sum_by, if◌then◌else◌}
+use Rattle.std.specs.Prelude.{◌≡◌, ℕ, Bool, true, false, IsTrue, List, [], map, length, if◌then◌else◌}
 use Rattle.std.specs.List.{All}
 use Rattle.v_design.specs.Designs.{FlatDesign, TestPlan}
-use Rattle.copy_shard.specs.Shards.{places_of, shard_steps}
+use Rattle.copy_shard.specs.Shards.{places_of}
+pub use Rattle.copy_shard.specs.Together.{claimed_steps}
 use Rattle.fault_shards.specs.Cuts.{shard, shard_count}
 use Rattle.fault_shards.specs.Shards.{AreShardsOf, representatives_of}
 use Rattle.fault_shards.specs.declared.shards.Shards.{Shards}
@@ -11,7 +12,7 @@ use Rattle.verdict_words.specs.Views.{lent_share}
 use Rattle.verdict_words.specs.declared.board.Board.{Board}
 use Rattle.verdict_words.specs.declared.board.Seat.{Seat}
 use Rattle.verdict_words.specs.declared.view.View.{View}
-use Rattle.shard_claims.specs.declared.round.ClaimedShard.{ClaimedShard}
+use Rattle.copy_shard.specs.declared.together.ClaimedShard.{ClaimedShard}
 use Rattle.shard_claims.specs.declared.worker.Worker.{Worker}
 
 module _ {N : Type 0} where
@@ -36,10 +37,6 @@ module _ {N : Type 0} where
   pub record KeepsShards (representatives : List ℕ) (gone : ℕ) (v : View) (shards : List (ClaimedShard N)) : Type 0 where
     pub claimed : v.claimed ≡ numbers_of shards
     pub each : All (IsClaimed representatives gone) shards
-
-  -- the process steps that the gradings of their faults take
-  abbrev pub claimed_steps : FlatDesign → TestPlan → List (ClaimedShard N) → ℕ
-  claimed_steps design plan shards = sum_by (λ (claimed : ClaimedShard N). shard_steps design plan claimed.shard) shards
 
   -- Workers
 

@@ -1,6 +1,5 @@
-// What all workers look at in a round, and a shard that one of them claimed.
+// What all workers look at in a round.
 
-use copy_shard::Shard;
 use fault_shards::Shards;
 use good_trace::Setup;
 use run_trace::RunWindow;
@@ -16,11 +15,4 @@ pub struct Round<'r, 'd, N: World, G> {
     pub board: &'r Board<N>,
     pub gate: &'r G,
     pub window: &'r RunWindow<N>,
-}
-
-/// A shard, with the number by which it was claimed.
-#[derive(Drop)]
-pub struct ClaimedShard<N: World> {
-    pub number: u32,
-    pub shard: Shard<N>,
 }

@@ -2,13 +2,13 @@
 
 ghost use Rattle.std.specs.Prelude.{IfOk};
 ghost use Rattle.fault_shards.specs.Shards.{representatives_of};
-ghost use Rattle.graded_steps.specs.Behind.{RisesTwice};
+ghost use Rattle.copy_shard.specs.graded_steps.Behind.{RisesTwice};
 ghost use Rattle.shard_claims.specs.Workers.{IsPlaceOf, IsWorkerAt, worker_steps};
 
 use crate::claim::claim_all;
-use crate::round::{ClaimedShard, Round};
+use crate::round::Round;
 use crate::shards::advance_all;
-use copy_shard::ShardRoom;
+use copy_shard::{ClaimedShard, ShardRoom};
 use std::alloc::Global;
 use std::sync::ledger::Ledger;
 use v_design::World;
@@ -61,9 +61,6 @@ fn work_in<'d, N: World, G: Gate, L: Ledger>(
     })
 }
 
-/// Lets go of a room.
-fn let_go<N: World>(_room: ShardRoom<'_, N>) {}
-
 /// Takes a worker through a round: it claims shards until none is left, where it hasn't done so yet, and its shards go through the round's window. `steps`
 /// ticks once for each process step that its faulty machines take.
 ///
@@ -83,7 +80,5 @@ pub fn work<N: World, G: Gate, L: Ledger>(
 {
     // The machine in it is of this thread alone.
     let mut room = ShardRoom::new(alloc);
-    let done = work_in(alloc, round, worker, &mut room, steps);
-    let_go(room);
-    done
+    work_in(alloc, round, worker, &mut room, steps)
 }

@@ -19,7 +19,7 @@ use Rattle.verdict_settle.specs.Harvests.{claimed_faults, IsHarvest}
 use Rattle.verdict_settle.specs.HarvestLaws.{nothing-in, harvest-start, harvest-settled, harvest-joined, claimed-both}
 use Rattle.copy_laws.specs.Windows.{good_slots}
 use Rattle.shard_claims.specs.copy_shard.Shards.{places_of}
-use Rattle.shard_claims.specs.declared.round.ClaimedShard.{ClaimedShard}
+use Rattle.shard_claims.specs.copy_shard.declared.together.ClaimedShard.{ClaimedShard}
 use Rattle.shard_claims.specs.Workers.{numbers_of, IsClaimed, KeepsShards, HasClaimed}
 use Rattle.shard_crew.specs.Crews.{places_in, IsFoundShard, HaveGone, HasGathered, IsRest}
 use Rattle.shard_crew.specs.declared.gathered.Gathered.{Gathered}

@@ -4,12 +4,13 @@ use Rattle.std.specs.Prelude.{sum, sum_by, Option, None, Some, IsSomeAnd}
 use Rattle.std.proofs.lemmas.List.Sums.{sum_by-append, sum_by_more, sum_by_push}
 use Rattle.v_design.specs.Designs.{FlatDesign, TestPlan}
 use Rattle.shard_claims.specs.copy_shard.Shards.{fault_steps_at, places_of, shard_steps}
-use Rattle.graded_steps.specs.Behind.{RisesTwice, RisesWithin}
-use Rattle.shard_claims.specs.declared.round.ClaimedShard.{ClaimedShard}
+use Rattle.shard_claims.specs.graded_steps.Behind.{RisesTwice, RisesWithin}
+use Rattle.shard_claims.specs.copy_shard.declared.together.ClaimedShard.{ClaimedShard}
 use Rattle.shard_claims.specs.declared.worker.Worker.{Worker}
 use Rattle.verdict_words.specs.declared.board.Board.{Board}
 use Rattle.shard_claims.specs.WorkerLaws.{is-new}
-use Rattle.shard_claims.specs.Workers.{IsWorkerAt, claimed_steps, worker_steps}
+use Rattle.shard_claims.specs.Workers.{IsWorkerAt, worker_steps}
+use Rattle.shard_claims.specs.copy_shard.Together.{claimed_steps}
 use Rattle.shard_crew.specs.Crews.{claimed_most, crew_steps, steps_in}
 
 none-length : {A : Type 0} (xs : List A) → length xs ≡ 0 → xs ≡ []

@@ -3,14 +3,14 @@ use Rattle.std.specs.Prelude.{◌≡◌, ℕ, ◌+◌, ◌*◌, ◌^◌, IsTrue,
 use Rattle.std.specs.List.{All, flat_map}
 use Rattle.copy_laws.specs.Windows.{good_slots}
 use Rattle.shard_claims.specs.copy_shard.Shards.{fault_steps_at, places_of, findings_of}
-use Rattle.graded_steps.specs.Behind.{RisesTwice}
+use Rattle.shard_claims.specs.graded_steps.Behind.{RisesTwice}
 use Rattle.fault_shards.specs.Found.{found_faults}
 use Rattle.verdict_settle.specs.Harvests.{IsHarvest, claimed_faults}
 use Rattle.verdict_words.specs.Seats.{view, IsSeatOf}
 use Rattle.verdict_words.specs.Views.{lent_share}
 use Rattle.verdict_words.specs.declared.board.Board.{Board}
 use Rattle.verdict_words.specs.declared.board.Seat.{Seat}
-use Rattle.shard_claims.specs.declared.round.ClaimedShard.{ClaimedShard}
+use Rattle.shard_claims.specs.copy_shard.declared.together.ClaimedShard.{ClaimedShard}
 use Rattle.shard_claims.specs.declared.worker.Worker.{Worker}
 use Rattle.v_design.specs.Designs.{FlatDesign, TestPlan}
 use Rattle.shard_claims.specs.Workers.{IsWorkerAt, worker_steps, KeepsShards}

@@ -7,7 +7,8 @@ ghost use Rattle.v_design.specs.WellFormed.{KeepsRules};
 ghost use Rattle.shard_claims.specs.copy_shard.Shards.{fault_steps_at, findings_of, places_of, shard_steps};
 ghost use Rattle.fault_shards.specs.Found.{IsFinding, found_faults};
 ghost use Rattle.fault_shards.specs.Shards.{representatives_of};
-ghost use Rattle.shard_claims.specs.Workers.{IsPlaceOf, IsWorkerAt, claimed_steps, worker_steps};
+ghost use Rattle.shard_claims.specs.Workers.{IsPlaceOf, IsWorkerAt, worker_steps};
+ghost use Rattle.shard_claims.specs.copy_shard.Together.{claimed_steps};
 ghost use Rattle.shard_crew.specs.Crews.{AreWorkersAt, claimed_most, crew_steps, IsRest, IsFoundShard, HaveGone, places_in, HasGathered};
 ghost use Rattle.verdict_words.specs.Views.{lent_share};
 

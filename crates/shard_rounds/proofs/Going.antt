@@ -7,7 +7,7 @@ use Rattle.beside_laws.specs.GoodRuns.{GoodRunGoesOn}
 use Rattle.copy_laws.specs.Windows.{WindowEnd, IsWindow, good_slots}
 use Rattle.good_trace.specs.Traces.{WindowKept}
 use Rattle.good_windows.specs.Next.{RunKept, IsNextWindow, AllStand, LoopsBehind}
-use Rattle.fault_grade.specs.Results.{LoopsAt}
+use Rattle.shard_crew.specs.fault_grade.Results.{LoopsAt}
 use Rattle.verdict_words.specs.declared.board.Board.{Board}
 use Rattle.shard_crew.specs.shard_claims.declared.worker.Worker.{Worker}
 use Rattle.shard_crew.specs.Crews.{AreWorkersAt}

@@ -4,9 +4,9 @@ use Rattle.std.proofs.lemmas.List.Sums.{sum_by-take-le}
 use Rattle.v_design.specs.Designs.{FlatDesign, TestPlan}
 use Rattle.v_design.specs.OwnSteps.{good_steps}
 use Rattle.copy_laws.specs.Windows.{good_slots}
-use Rattle.machine.specs.Ticks.{process_steps}
+use Rattle.shard_crew.specs.machine.Ticks.{process_steps}
 use Rattle.good_windows.specs.Next.{steps_of_slots}
-use Rattle.graded_steps.specs.Behind.{RisesTwice, RisesWithin}
+use Rattle.shard_crew.specs.graded_steps.Behind.{RisesTwice, RisesWithin}
 
 pub rises-more : (one two three before mid after : ℕ) → RisesWithin one two before mid → RisesWithin two three mid after → RisesWithin one three before after
 rises-more one two three before mid after r s = omega (arith, r, s)

@@ -1,7 +1,7 @@
 -- What the rounds come to (grades by the definition, over events by IEEE 1364-2001, clause 5).
 use Rattle.std.specs.Prelude.{ℕ, ◌+◌, ◌*◌, ◌≤◌, ◌^◌, List}
 use Rattle.v_design.specs.Designs.{FlatDesign, TestPlan}
-use Rattle.fault_grade.specs.Results.{LoopsAt}
+use Rattle.shard_crew.specs.fault_grade.Results.{LoopsAt}
 use Rattle.verdict_words.specs.declared.board.Board.{Board}
 use Rattle.shard_rounds.specs.declared.outcome.Outcome.{Outcome}
 use Rattle.shard_rounds.specs.declared.outcome.Outcome.TheVariants.{Graded, GoodLoop}

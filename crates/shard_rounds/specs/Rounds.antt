@@ -2,10 +2,10 @@
 use Rattle.std.specs.Prelude.{◌≡◌, ℕ, ◌+◌, ◌≤◌, true, List, length, sum}
 use Rattle.v_design.specs.Designs.{FlatDesign, TestPlan}
 use Rattle.copy_laws.specs.Windows.{IsWindow, good_slots}
-use Rattle.fault_grade.specs.Results.{LoopsAt}
+use Rattle.shard_crew.specs.fault_grade.Results.{LoopsAt}
 use Rattle.good_trace.specs.Traces.{WindowKept}
 use Rattle.v_design.specs.OwnSteps.{good_steps}
-use Rattle.graded_steps.specs.Behind.{RisesTwice, RisesWithin}
+use Rattle.shard_crew.specs.graded_steps.Behind.{RisesTwice, RisesWithin}
 use Rattle.good_windows.specs.Next.{RunKept, GivesNext, steps_of_slots}
 use Rattle.good_windows.specs.declared.next.NextWindow.{NextWindow}
 use Rattle.verdict_words.specs.declared.board.Board.{Board}

@@ -6,7 +6,7 @@ ghost use Rattle.fault_shards.specs.Shards.{representatives_of};
 ghost use Rattle.verdict_words.specs.Seats.{view, IsSeatOf};
 ghost use Rattle.verdict_words.specs.Views.{first_view};
 ghost use Rattle.shard_crew.specs.shard_claims.Workers.{IsPlaceOf};
-ghost use Rattle.graded_steps.specs.Behind.{RisesWithin};
+ghost use Rattle.shard_crew.specs.graded_steps.Behind.{RisesWithin};
 ghost use Rattle.good_windows.specs.Next.{steps_of_slots};
 ghost use Rattle.shard_rounds.specs.Rounds.{AllTicks, FirstTicks, IsBeforeRound, AreDone, IsFirst};
 ghost use Rattle.shard_rounds.specs.Outcomes.{IsOutcome, OutcomeTicks};
@@ -124,9 +124,6 @@ fn grade_run<N: World, R: Threads + Sync, G: Gate + Sync, L: Ledger + Send + Syn
     }
 }
 
-/// Lets go of what went ahead of the workers.
-fn let_go<N: World>(_ahead: Ahead<'_, '_, N>) {}
-
 /// Grades the faults of all shards by as many workers as there are counters, in rounds; `own` has the calling thread's counter alone.
 ///
 /// Which worker grades which shard depends on the schedule; what is answered doesn't. Where no thread can be started the calling thread does the work.
@@ -152,7 +149,6 @@ pub fn grade_rounds<N: World, R: Threads + Sync, G: Gate + Sync, L: Ledger + Sen
 {
     let run = GoodRun::new(alloc, place.setup)?;
     let mut ahead = Ahead { run, used: None };
-    let outcome = grade_run(rt, alloc, place, &mut ahead, seat, own, steps);
-    let_go(ahead);
-    outcome
+    let outcome = grade_run(rt, alloc, place, &mut ahead, seat, own, steps)?;
+    Ok(outcome)
 }

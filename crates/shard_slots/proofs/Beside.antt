@@ -8,10 +8,10 @@ use Rattle.v_design.specs.Designs.{FlatDesign, TestPlan}
 use Rattle.v_design.specs.Plain.{fault_of}
 use Rattle.v_design.specs.WellFormed.{IsPlanOf}
 use Rattle.v_design.specs.declared.plan.Fault.{Fault}
-use Rattle.copy_skip.specs.There.{SearchesBegin}
+use Rattle.copy_lockstep.specs.copy_skip.There.{SearchesBegin}
 use Rattle.copy_lockstep.proofs.copy_pass.Left.{site-there}
 use Rattle.copy_lockstep.specs.copy_window.declared.fault.ShardFault.{ShardFault}
-use Rattle.lockstep_copies.specs.Copies.{IsCopyInLockstep}
+use Rattle.copy_lockstep.specs.lockstep_copies.Copies.{IsCopyInLockstep}
 use Rattle.copy_lockstep.specs.slot_laws.Copies.{lockstep_differences}
 use Rattle.copy_lockstep.specs.phase_faults.Beside.{HasSite, ticked_of}
 use Rattle.copy_lockstep.specs.phase_faults.declared.beside.FaultBeside.{FaultBeside}
@@ -87,7 +87,7 @@ module _ (design : FlatDesign) (plan : TestPlan) (before through slot : ℕ) whe
           record {
             none = gone.enters.may.behind.none;
             takes = λ count other place stands.
-                let takes = law.entered design plan (fault_of old.fault) (before + slot) at.seen count at.possible old.one.own.copy own other gone.enters may place stands in
+                let takes = law.entered design plan (fault_of old.fault) (before + slot) at.passed at.seen count at.possible old.one.own.copy own other gone.enters may place stands in
                 omega (arith, takes, most);
           },
         )
@@ -105,7 +105,7 @@ module _ (design : FlatDesign) (plan : TestPlan) (before through slot : ℕ) whe
           record {
             slot_is = gone.slot_is;
             more = gone.more;
-            enters = subst (λ (f : Fault). EntersSlot design plan (fault_of f) (before + slot) own at.seen at.possible) (sym comes.stays.fault) gone.enters;
+            enters = subst (λ (f : Fault). EntersSlot design plan (fault_of f) (before + slot) at.passed own at.seen at.possible) (sym comes.stays.fault) gone.enters;
             place = rest.fault ∙ gone.place;
             states = rest.states ∙ gone.states;
           };

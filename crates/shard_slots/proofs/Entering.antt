@@ -6,7 +6,7 @@ use Rattle.v_design.specs.Plain.{fault_of}
 use Rattle.v_design.specs.WellFormed.{KeepsRules}
 use Rattle.copy_laws.specs.Windows.{good_slots}
 use Rattle.beside_laws.specs.Shards.{FaultsGoOn}
-use Rattle.window_strobes.specs.Passed.{HasPassed}
+use Rattle.copy_lockstep.specs.window_strobes.Passed.{HasPassed}
 use Rattle.copy_lockstep.specs.copy_window.ShardFaults.{IsShardFault}
 use Rattle.copy_lockstep.specs.copy_window.declared.fault.ShardFault.{ShardFault}
 use Rattle.good_trace.specs.Traces.{WindowKept}
@@ -62,7 +62,7 @@ module _ (design : FlatDesign) (plan : TestPlan) (before through slot : ℕ) whe
 
   -- it enters the slot
   pub enters-there : (window : WindowKept) (last : ℕ) (entering : Entering) (old own : ShardFault) (at : FaultAt) (beside : FaultBeside) → window.before ≡ before → window.through ≡ through →
-      before + last < length (good_slots design plan) → EntersWith design plan (fault_of beside.fault) window last slot old own entering → beside.one ≡ entering.one → at.seen ≡ entering.passed →
+      before + last < length (good_slots design plan) → EntersWith design plan (fault_of beside.fault) window last slot at.passed old own entering → beside.one ≡ entering.one → at.seen ≡ entering.passed →
       at.possible ≡ entering.possible → at.slot ≡ slot → IsWithin design plan before through own at → slice_get plan.faults own.copy.fault ≡ Some (fault_of beside.fault) →
       Enters design plan before through slot own at beside
   enters-there window last entering old own at beside before_is through_is more enters one_is seen_is possible_is slot_is within listed = record {
@@ -74,10 +74,10 @@ module _ (design : FlatDesign) (plan : TestPlan) (before through slot : ℕ) whe
       slot_is = slot_is;
       more = (let early = enters.early in omega (arith, early, more));
       enters =
-          subst (λ (n : ℕ). EntersSlot design plan (fault_of beside.fault) (n + slot) own at.seen at.possible) before_is
-          (subst (λ (p : Option ℕ). EntersSlot design plan (fault_of beside.fault) (window.before + slot) own at.seen p) (sym possible_is)
-          (subst (λ (n : ℕ). EntersSlot design plan (fault_of beside.fault) (window.before + slot) own n entering.possible) (sym seen_is)
-          (subst (λ (o : ShardFault). EntersSlot design plan (fault_of beside.fault) (window.before + slot) o entering.passed entering.possible) (sym enters.stays) enters.enters)));
+          subst (λ (n : ℕ). EntersSlot design plan (fault_of beside.fault) (n + slot) at.passed own at.seen at.possible) before_is
+          (subst (λ (p : Option ℕ). EntersSlot design plan (fault_of beside.fault) (window.before + slot) at.passed own at.seen p) (sym possible_is)
+          (subst (λ (n : ℕ). EntersSlot design plan (fault_of beside.fault) (window.before + slot) at.passed own n entering.possible) (sym seen_is)
+          (subst (λ (o : ShardFault). EntersSlot design plan (fault_of beside.fault) (window.before + slot) at.passed o entering.passed entering.possible) (sym enters.stays) enters.enters)));
       place = ap (λ (one : FaultInSlot). one.own.copy.fault) one_is ∙ enters.place ∙ ap (λ (o : ShardFault). o.copy.fault) (sym enters.stays);
       states = ap (λ (one : FaultInSlot). one.own.copy.states) one_is ∙ enters.states;
     };

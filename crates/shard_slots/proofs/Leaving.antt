@@ -4,9 +4,9 @@ use Rattle.std.specs.Prelude.{None, slice_get}
 use Rattle.v_design.specs.Designs.{FlatDesign, TestPlan}
 use Rattle.v_design.specs.Plain.{fault_of}
 use Rattle.v_design.specs.WellFormed.{KeepsRules}
-use Rattle.graded_steps.specs.Behind.{RisesTwice, RisesWithin}
-use Rattle.graded_steps.specs.Gradings.{GradingsTakeSteps}
-use Rattle.copy_lockstep.specs.copy_window.ShardFaults.{IsShardFault, steps_taken}
+use Rattle.copy_lockstep.specs.graded_steps.Behind.{RisesTwice, RisesWithin}
+use Rattle.copy_lockstep.specs.graded_steps.Gradings.{GradingsTakeSteps}
+use Rattle.copy_lockstep.specs.copy_window.ShardFaults.{IsShardFault, SameFault, steps_taken}
 use Rattle.copy_lockstep.specs.copy_window.declared.fault.ShardFault.{ShardFault}
 use Rattle.copy_lockstep.specs.phase_faults.declared.beside.FaultBeside.{FaultBeside}
 use Rattle.window_faults.specs.Steps.{steps_of_fault}
@@ -31,7 +31,7 @@ module _ (take : GradingsTakeSteps) (design : FlatDesign) (plan : TestPlan) (rul
       omega (arith, later, none)
 
   -- one of which nothing was found so far, and which stands behind the slot now
-  module _ (at_is : at.slot ≡ slot) (none : own.end ≡ None) (behind : ℕ) (new : ShardFault) (place : new.copy.fault ≡ own.copy.fault) (stands : IsShardFault design plan (before + (slot + 1)) behind new) where
+  module _ (at_is : at.slot ≡ slot) (none : own.end ≡ None) (behind : ℕ) (new : ShardFault) (place : SameFault own new) (stands : IsShardFault design plan (before + (slot + 1)) behind new) where
     stood : IsShardFault design plan (before + slot) at.passed own
     stood = subst (λ (n : ℕ). IsShardFault design plan (before + n) at.passed own) at_is went.within.stands
 
@@ -46,7 +46,7 @@ module _ (take : GradingsTakeSteps) (design : FlatDesign) (plan : TestPlan) (rul
               let fault = fault_of beside.fault in
               let a = steps-open design plan (before + slot) own fault went.listed none in
               let b : steps_of_fault design plan (before + (slot + 1)) new ≡ steps_taken design plan (suc (before + slot)) fault new.end =
-              steps-are design plan (before + (slot + 1)) new fault (ap (slice_get plan.faults) place ∙ went.listed) ∙ ap (λ (n : ℕ). steps_taken design plan n fault new.end) next in
+              steps-are design plan (before + (slot + 1)) new fault (ap (slice_get plan.faults) place.number ∙ went.listed) ∙ ap (λ (n : ℕ). steps_taken design plan n fault new.end) next in
               let takes = some.1.takes behind new place (subst (λ (n : ℕ). IsShardFault design plan n behind new) next stands) in
               omega (arith, a, b, takes)
         ]
@@ -60,7 +60,7 @@ module _ (take : GradingsTakeSteps) (design : FlatDesign) (plan : TestPlan) (rul
     whole-within one other rises =
         let fault = fault_of beside.fault in
         let a = steps-open design plan (before + slot) own fault went.listed none in
-        let b = steps-are design plan (before + (slot + 1)) new fault (ap (slice_get plan.faults) place ∙ went.listed) in
+        let b = steps-are design plan (before + (slot + 1)) new fault (ap (slice_get plan.faults) place.number ∙ went.listed) in
         let most = took in
         omega (arith, a, b, most, rises)
 

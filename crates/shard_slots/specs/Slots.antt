@@ -4,9 +4,9 @@ use Rattle.v_design.specs.Designs.{FlatDesign, StuckAt, TestPlan}
 use Rattle.v_design.specs.Plain.{fault_of}
 use Rattle.v_design.specs.Runs.{FirstSlot}
 use Rattle.copy_laws.specs.Windows.{good_slots}
-use Rattle.copy_lockstep.specs.copy_window.ShardFaults.{IsShardFault, steps_taken}
+use Rattle.copy_lockstep.specs.copy_window.ShardFaults.{IsShardFault, SameFault, steps_taken}
 use Rattle.copy_lockstep.specs.copy_window.declared.fault.ShardFault.{ShardFault}
-use Rattle.lockstep_copies.specs.Copies.{IsCopyInLockstep}
+use Rattle.copy_lockstep.specs.lockstep_copies.Copies.{IsCopyInLockstep}
 use Rattle.copy_lockstep.specs.slot_laws.Copies.{lockstep_differences}
 use Rattle.copy_lockstep.specs.phase_faults.declared.beside.FaultBeside.{FaultBeside}
 use Rattle.copy_lockstep.specs.lockstep_slot.Beside.{BeginsSlot}
@@ -22,7 +22,7 @@ goes_beside beside = beside.goes
 pub record GoesBeside (design : FlatDesign) (plan : TestPlan) (before slot : ℕ) (own : ShardFault) (at : FaultAt) (beside : FaultBeside) : Type 0 where
   pub slot_is : at.slot ≡ slot
   pub more : before + slot + 1 < length (good_slots design plan)
-  pub enters : EntersSlot design plan (fault_of beside.fault) (before + slot) own at.seen at.possible
+  pub enters : EntersSlot design plan (fault_of beside.fault) (before + slot) at.passed own at.seen at.possible
   pub place : beside.one.own.copy.fault ≡ own.copy.fault
   pub states : beside.one.own.copy.states ≡ []
 
@@ -38,7 +38,7 @@ pub record Enters (design : FlatDesign) (plan : TestPlan) (before through slot :
 -- a fault of which nothing was found entered a slot behind so many, and so many process steps were ticked for it there: behind the slot its grading has taken these at least
 pub record TicksWithin (design : FlatDesign) (plan : TestPlan) (fault : StuckAt) (gone ticked : ℕ) (own : ShardFault) : Type 0 where
   pub none : own.end ≡ None
-  pub takes : (count : ℕ) (new : ShardFault) → new.copy.fault ≡ own.copy.fault → IsShardFault design plan (suc gone) count new →
+  pub takes : (count : ℕ) (new : ShardFault) → SameFault own new → IsShardFault design plan (suc gone) count new →
       steps_taken design plan gone fault None + ticked ≤ steps_taken design plan (suc gone) fault new.end
 
 -- a fault behind a slot that others went through beside it: where it went through it in lockstep, what is kept of it stands in lockstep behind the slot; where process steps were ticked for it,

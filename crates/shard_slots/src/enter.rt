@@ -4,6 +4,7 @@ ghost use Rattle.std.specs.Prelude.{◌≡◌, ◌+◌, ◌<◌, ◌≤◌, leng
 ghost use Rattle.std.specs.List.{AllZip};
 ghost use Rattle.v_design.specs.Plain.{fault_of};
 ghost use Rattle.copy_laws.specs.Windows.{good_slots};
+ghost use Rattle.copy_lockstep.specs.copy_window.ShardFaults.{SameFault};
 ghost use Rattle.window_faults.specs.Steps.{TakesNoFewer};
 ghost use Rattle.window_faults.specs.Within.{AreWithin, IsWithin};
 ghost use Rattle.shard_slots.specs.Slots.{Enters, HaveEntered};
@@ -35,7 +36,7 @@ fn enter_open<N: World>(
     requires none { own.old.end ≡ None }
     requires within { IsWithin N.design N.plan view.now.window.now.before view.now.window.now.through own.old at.old }
     ensures enters { IfOk result (Enters N.design N.plan view.now.window.now.before view.now.window.now.through at.old.slot own.new at.new) }
-    ensures place { OnOk result (own.new.copy.fault ≡ own.old.copy.fault) }
+    ensures place { OnOk result (SameFault own.old own.new) }
     ensures further { OnOk result (at.old.slot ≤ at.new.slot) }
 {
     beside_laws::faults_go_on();
@@ -96,7 +97,7 @@ fn enter_one<N: World>(
     ensures enters { IfOk result (Enters N.design N.plan view.now.window.now.before view.now.window.now.through slot own.new at.new) }
     ensures steps { OnOk result (TakesNoFewer N.design N.plan (view.now.window.now.before + slot) own.old own.new) }
 {
-    graded_steps::gradings_take_steps();
+    copy_lockstep::gradings_take_steps();
     let design = setup.design();
     let fault = listed_fault(setup, &own.copy);
     if own.end.is_some() {

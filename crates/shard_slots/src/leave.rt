@@ -2,25 +2,23 @@
 
 ghost use Rattle.std.specs.Prelude.{◌≡◌, ◌+◌, ◌<◌, ◌≤◌, None, OnOk, sum_by};
 ghost use Rattle.std.specs.List.{AllZip};
-ghost use Rattle.copy_room.specs.Rooms.{IsRoom};
-ghost use Rattle.graded_steps.specs.Behind.{RisesTwice};
-ghost use Rattle.window_strobes.specs.Passed.{HasPassed};
-ghost use Rattle.window_strobes.specs.Strobes.{AreStrobesOf, passed_behind};
+ghost use Rattle.copy_lockstep.specs.copy_room.Rooms.{IsRoom};
+ghost use Rattle.copy_lockstep.specs.graded_steps.Behind.{RisesTwice};
+ghost use Rattle.copy_lockstep.specs.window_strobes.Passed.{HasPassed};
+ghost use Rattle.copy_lockstep.specs.window_strobes.Strobes.{AreStrobesOf, passed_behind};
 ghost use Rattle.copy_lockstep.specs.phase_faults.Beside.{ticked_of};
 ghost use Rattle.window_faults.specs.Steps.{StaysFault, steps_of_fault, steps_of_faults};
 ghost use Rattle.window_faults.specs.Within.{AreWithin, IsWithin};
 ghost use Rattle.shard_slots.specs.Slots.{HaveGone, WentThrough};
 
 use causal_monitor::SlotLog;
-use copy_lockstep::{FaultBeside, ShardFault, leave_slot};
+use copy_lockstep::{FaultBeside, Machine, ShardFault, WindowStrobes, leave_slot};
 use good_trace::{Setup, TraceWindow};
-use machine::Machine;
 use std::alloc::Global;
 use std::sync::ledger::Ledger;
 use v_design::World;
 use vf_base::{NoMemory, Steps};
 use window_faults::{FaultAt, comes_to, run_whole};
-use window_strobes::WindowStrobes;
 
 /// A fault behind a slot: it went through it in lockstep, or it is run whole through it, if it hasn't passed it.
 fn leave_one<N: World, L: Ledger>(
@@ -49,7 +47,7 @@ fn leave_one<N: World, L: Ledger>(
     ensures ticks { OnOk result (RisesTwice (steps_of_fault N.design N.plan (window.now.before + slot) own.old) (steps_of_fault N.design N.plan (window.now.before + (slot + 1)) own.new)
         steps.old (steps.new + beside.one.ticked)) }
 {
-    graded_steps::gradings_take_steps();
+    copy_lockstep::gradings_take_steps();
     let design = setup.design();
     if own.end.is_some() {
         return Ok(());
@@ -64,7 +62,18 @@ fn leave_one<N: World, L: Ledger>(
         ..
     } = beside;
     if goes {
-        let reached = leave_slot(setup, window, fault, one, at.seen, at.possible, own, slot);
+        let reached = leave_slot(
+            alloc,
+            setup,
+            window,
+            fault,
+            one,
+            at.passed,
+            at.seen,
+            at.possible,
+            own,
+            slot,
+        )?;
         *at = comes_to(reached.slot, reached.passed);
         return Ok(());
     }

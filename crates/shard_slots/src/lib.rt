@@ -11,7 +11,9 @@ mod leave;
 mod room;
 mod slots;
 
-pub use copy_lockstep::ShardFault;
+pub use copy_lockstep::{
+    ShardFault, WindowStrobes, begin_fault, empty_log, gradings_take_steps, new_fault, strobes_of,
+};
 pub use room::SlotRoom;
 pub use slots::go_through_window;
-pub use window_faults::{begin_fault, listed_fault, new_fault};
+pub use window_faults::listed_fault;

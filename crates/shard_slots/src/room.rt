@@ -1,23 +1,23 @@
 // Where the faults of a shard go through slots.
 
-use copy_lockstep::LockstepRoom;
+use copy_lockstep::{LockstepRoom, Machine, NextTouches, new_room};
 use good_trace::Setup;
-use machine::Machine;
 use std::alloc::Global;
 use std::marker::Model;
 use v_design::World;
 use vf_base::NoMemory;
-use window_faults::new_room;
 
-/// Room in which the faults of shards of the world `N` go through slots: a machine of the design for those that are run whole, and what takes the others through in lockstep.
+/// Room in which the faults of shards of the world `N` go through slots: a machine of the design for those that are run whole, what takes the others through in lockstep, and what was found of
+/// the moments up to which these may be passed.
 #[derive(Drop)]
 pub struct SlotRoom<'d, N: World> {
     pub(crate) machine: Machine<'d>,
     pub(crate) lockstep: LockstepRoom<'d, N>,
+    pub(crate) touches: NextTouches<N>,
 }
 
 impl<'d, N: World> Model for SlotRoom<'d, N> {
-    ghost use Rattle.copy_room.specs.Rooms.{IsRoom};
+    ghost use Rattle.copy_lockstep.specs.copy_room.Rooms.{IsRoom};
     ghost use Rattle.copy_lockstep.specs.lockstep_block.Rooms.{IsLockstepRoom};
 
     ghost Value = { Unit {0} };
@@ -36,6 +36,11 @@ impl<'d, N: World> SlotRoom<'d, N> {
     pub fn new(alloc: Global, setup: &Setup<'d, N>) -> Result<SlotRoom<'d, N>, NoMemory> {
         let machine = new_room(alloc, setup)?;
         let lockstep = LockstepRoom::new(alloc, setup)?;
-        Ok(SlotRoom { machine, lockstep })
+        let touches = NextTouches::new(alloc, setup)?;
+        Ok(SlotRoom {
+            machine,
+            lockstep,
+            touches,
+        })
     }
 }

@@ -4,10 +4,10 @@ ghost use Rattle.std.specs.Prelude.{◌≡◌, ◌+◌, ◌<◌, ◌≤◌, leng
 ghost use Rattle.std.specs.List.{AllZip, list_any};
 ghost use Rattle.vf_base.specs.Lists.{AllHold};
 ghost use Rattle.copy_laws.specs.Windows.{good_slots, time_at};
-ghost use Rattle.copy_room.specs.Rooms.{IsRoom};
-ghost use Rattle.graded_steps.specs.Behind.{RisesTwice, RisesWithin};
-ghost use Rattle.window_strobes.specs.Passed.{HasPassed};
-ghost use Rattle.window_strobes.specs.Strobes.{AreStrobesOf, passed_behind};
+ghost use Rattle.copy_lockstep.specs.copy_room.Rooms.{IsRoom};
+ghost use Rattle.copy_lockstep.specs.graded_steps.Behind.{RisesTwice, RisesWithin};
+ghost use Rattle.copy_lockstep.specs.window_strobes.Passed.{HasPassed};
+ghost use Rattle.copy_lockstep.specs.window_strobes.Strobes.{AreStrobesOf, passed_behind};
 ghost use Rattle.copy_lockstep.specs.lockstep_block.Rooms.{IsLockstepRoom};
 ghost use Rattle.copy_lockstep.specs.lockstep_slot.Beside.{BeginsSlotIf, ComesThroughSlot};
 ghost use Rattle.copy_lockstep.specs.phase_faults.Beside.{HasSite, ticked_of};
@@ -22,19 +22,16 @@ use crate::leave::leave_each;
 use crate::room::SlotRoom;
 use causal_monitor::SlotLog;
 use copy_lockstep::{
-    FaultBeside, LockstepRoom, LockstepWindow, ShardFault, all_through_slot, end_of_lockstep,
-    slots_take_steps,
+    FaultBeside, LockstepRoom, LockstepWindow, Machine, NextTouches, ShardFault, WindowStrobes,
+    all_through_slot, end_of_lockstep, searches_begin, slots_take_steps,
 };
-use copy_skip::searches_begin;
 use good_trace::Setup;
-use machine::Machine;
 use run_trace::RunWindow;
 use std::alloc::Global;
 use std::sync::ledger::Ledger;
 use v_design::World;
 use vf_base::{NoMemory, Steps};
 use window_faults::{FaultAt, begin_each};
-use window_strobes::WindowStrobes;
 
 /// Whether some fault goes in the slot in lockstep.
 fn some_goes(besides: &[FaultBeside]) -> bool
@@ -49,6 +46,7 @@ fn go_beside<N: World, L: Ledger>(
     setup: &Setup<'_, N>,
     view: &LockstepWindow<'_, N>,
     lockstep: &mut LockstepRoom<'_, N>,
+    touches: &mut NextTouches<N>,
     besides: &mut Vec<FaultBeside>,
     slot: u32,
     steps: &mut Steps<L>,
@@ -65,7 +63,7 @@ fn go_beside<N: World, L: Ledger>(
     if !some_goes(besides) {
         return Ok(());
     }
-    all_through_slot(alloc, setup, view, lockstep, besides, slot, steps)?;
+    all_through_slot(alloc, setup, view, lockstep, touches, besides, slot, steps)?;
     Ok(())
 }
 
@@ -77,6 +75,7 @@ fn go_slot<N: World, L: Ledger>(
     strobes: &WindowStrobes,
     machine: &mut Machine<'_>,
     lockstep: &mut LockstepRoom<'_, N>,
+    touches: &mut NextTouches<N>,
     log: &mut SlotLog,
     faults: &mut Vec<ShardFault>,
     ats: &mut Vec<FaultAt>,
@@ -105,7 +104,16 @@ fn go_slot<N: World, L: Ledger>(
     slots_take_steps();
     let plan = setup.plan();
     let mut besides = enter_each(alloc, setup, view, faults, ats, slot, last)?;
-    go_beside(alloc, setup, view, lockstep, &mut besides, slot, steps)?;
+    go_beside(
+        alloc,
+        setup,
+        view,
+        lockstep,
+        touches,
+        &mut besides,
+        slot,
+        steps,
+    )?;
     leave_each(
         alloc,
         setup,
@@ -131,6 +139,7 @@ fn go_through<N: World, L: Ledger>(
     now: u64,
     machine: &mut Machine<'_>,
     lockstep: &mut LockstepRoom<'_, N>,
+    touches: &mut NextTouches<N>,
     log: &mut SlotLog,
     faults: &mut Vec<ShardFault>,
     steps: &mut Steps<L>,
@@ -156,8 +165,8 @@ fn go_through<N: World, L: Ledger>(
     let slots = view.window.slots();
     'slots: for slot in 0..slots {
         go_slot(
-            alloc, setup, view, strobes, machine, lockstep, log, faults, &mut ats, slot, last,
-            steps,
+            alloc, setup, view, strobes, machine, lockstep, touches, log, faults, &mut ats, slot,
+            last, steps,
         )?;
     }
     Ok(())
@@ -203,6 +212,7 @@ pub fn go_through_window<'d, N: World, L: Ledger>(
 {
     let mut machine = room.machine;
     let mut lockstep = room.lockstep;
+    let mut touches = room.touches;
     let view = view_of(run);
     go_through(
         alloc,
@@ -212,9 +222,14 @@ pub fn go_through_window<'d, N: World, L: Ledger>(
         now,
         &mut machine,
         &mut lockstep,
+        &mut touches,
         log,
         faults,
         steps,
     )?;
-    Ok(SlotRoom { machine, lockstep })
+    Ok(SlotRoom {
+        machine,
+        lockstep,
+        touches,
+    })
 }

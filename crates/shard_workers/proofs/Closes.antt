@@ -11,7 +11,7 @@ use Rattle.vf_base.specs.declared.finding.Finding.{Finding}
 use Rattle.v_design.specs.Designs.{FlatDesign, TestPlan}
 use Rattle.order_laws.specs.Reports.{AreGrades}
 use Rattle.v_design.specs.Findings.{grades_of, AreInOrder}
-use Rattle.fault_grade.specs.Results.{LoopsAt}
+use Rattle.shard_rounds.specs.fault_grade.Results.{LoopsAt}
 use Rattle.fault_shards.specs.Cuts.{shard, shard_count, ShardsCover}
 use Rattle.fault_shards.specs.Found.{IsFinding, AreFound, found_faults}
 use Rattle.fault_shards.specs.Shards.{AreShardsOf, representatives_of, fault_count}

@@ -13,7 +13,7 @@ use Rattle.shard_rounds.specs.copy_shard.Shards.{ShardKept, fault_steps_at, plac
 use Rattle.fault_shards.specs.Cuts.{shard, shard_count}
 use Rattle.verdict_words.specs.Rule.{times}
 use Rattle.verdict_words.specs.declared.view.View.{View}
-use Rattle.shard_rounds.specs.shard_claims.declared.round.ClaimedShard.{ClaimedShard}
+use Rattle.shard_rounds.specs.copy_shard.declared.together.ClaimedShard.{ClaimedShard}
 use Rattle.shard_rounds.specs.shard_claims.Workers.{IsClaimed, KeepsShards}
 use Rattle.shard_rounds.specs.shard_crew.Crews.{IsFoundShard, claimed_most}
 use Rattle.v_design.specs.Designs.{FlatDesign, TestPlan}

@@ -8,7 +8,7 @@ use Rattle.v_design.specs.Laws.{ReportHolds}
 use Rattle.v_design.specs.WellFormed.{KeepsRules, IsPlan}
 use Rattle.order_laws.specs.Reports.{AreGrades, OrdersExist, NothingBefore, ReportsHold}
 use Rattle.v_design.specs.Findings.{grades_of}
-use Rattle.fault_grade.specs.Results.{SpeaksOfOrders}
+use Rattle.shard_rounds.specs.fault_grade.Results.{SpeaksOfOrders}
 use Rattle.shard_workers.specs.Results.{IsGraded, StandsInEveryOrder}
 use Rattle.shard_workers.specs.declared.plan.PlanGrades.{PlanGrades}
 use Rattle.shard_workers.specs.declared.plan.PlanGrades.TheVariants.{Findings, GoodLoop}

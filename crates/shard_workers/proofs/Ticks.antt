@@ -5,12 +5,12 @@ use Rattle.std.proofs.lemmas.List.Sums.{sum_by-append}
 use Rattle.v_design.specs.Designs.{FlatDesign, TestPlan}
 use Rattle.shard_workers.specs.declared.grade.Graded.{Graded}
 use Rattle.shard_workers.specs.declared.grade.Graded.TheVariants.{Findings, GoodLoop}
-use Rattle.shard_workers.specs.Closings.{TicksWithin}
+use Rattle.shard_workers.specs.Closings.{GradedTicks}
 
 module _ {N : Type 0} (design : FlatDesign) (plan : TestPlan) where
   -- what the first counter and the workers' rise by, all rise by
-  pub ticks-over : (first counters rest own new : List ℕ) (graded : Graded N) → TicksWithin design plan (sum first + sum counters) (sum own + sum new) graded →
-      TicksWithin design plan (sum (first ++ (counters ++ rest))) (sum (own ++ (new ++ rest))) graded
+  pub ticks-over : (first counters rest own new : List ℕ) (graded : Graded N) → GradedTicks design plan (sum first + sum counters) (sum own + sum new) graded →
+      GradedTicks design plan (sum (first ++ (counters ++ rest))) (sum (own ++ (new ++ rest))) graded
   ticks-over first counters rest own new (GoodLoop time) within = tt
   ticks-over first counters rest own new (Findings work) within =
       let before : sum (counters ++ rest) ≡ sum counters + sum rest = sum_by-append (λ n. n) counters rest in

@@ -12,7 +12,7 @@ use Rattle.fault_shards.specs.Cuts.{shard, shard_count}
 use Rattle.fault_shards.specs.Found.{found_faults}
 use Rattle.fault_shards.specs.Representatives.{IsRepresentative, AreRepresentatives}
 use Rattle.v_design.specs.OwnSteps.{good_steps}
-use Rattle.fault_grade.specs.Results.{LoopsAt}
+use Rattle.shard_rounds.specs.fault_grade.Results.{LoopsAt}
 use Rattle.shard_workers.specs.Ordered.{work_steps}
 use Rattle.shard_workers.specs.declared.grade.Work.{Work}
 use Rattle.shard_workers.specs.declared.grade.Graded.{Graded}
@@ -57,9 +57,9 @@ module _ {N : Type 0} where
     pub shards_are : AreShardsDone closing.representatives work.shards.items
 
   -- where all faults were graded, counters rose by no more than the process steps of the good first run, and twice those that the gradings of the faults of all shards take
-  abbrev pub TicksWithin : FlatDesign → TestPlan → ℕ → ℕ → Graded N → Type 0
-  TicksWithin design plan before after (Findings work) = after ≤ before + (good_steps design plan + 2 * work_steps design plan work.shards.items)
-  TicksWithin design plan before after (GoodLoop time) = Unit {0}
+  abbrev pub GradedTicks : FlatDesign → TestPlan → ℕ → ℕ → Graded N → Type 0
+  GradedTicks design plan before after (Findings work) = after ≤ before + (good_steps design plan + 2 * work_steps design plan work.shards.items)
+  GradedTicks design plan before after (GoodLoop time) = Unit {0}
 
   -- so all faults were graded; or the good machine loops at a time, before a race of its own
   abbrev pub IsAllGraded : FlatDesign → TestPlan → Graded N → Type 0

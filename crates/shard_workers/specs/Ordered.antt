@@ -3,7 +3,7 @@ use Rattle.std.specs.Prelude.{◌≡◌, ℕ, List, map, sum_by}
 use Rattle.std.specs.List.Sorted.{IsPermutation, IsNonDecreasingBy}
 use Rattle.v_design.specs.Designs.{FlatDesign, TestPlan}
 use Rattle.shard_rounds.specs.copy_shard.Shards.{ShardKept, fault_steps_at, places_of}
-use Rattle.shard_rounds.specs.shard_claims.declared.round.ClaimedShard.{ClaimedShard}
+use Rattle.shard_rounds.specs.copy_shard.declared.together.ClaimedShard.{ClaimedShard}
 
 -- all process steps that the gradings of the faults of some shards take
 abbrev pub work_steps : FlatDesign → TestPlan → List ShardKept → ℕ

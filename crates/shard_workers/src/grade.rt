@@ -3,11 +3,11 @@
 ghost use Rattle.std.specs.Prelude.{◌≡◌, ◌+◌, ◌<◌, ◌≤◌, ◌^◌, ℕ, length, sum, IfOk};
 ghost use Rattle.v_design.specs.PlainDesigns.{design_of, plan_of};
 ghost use Rattle.v_design.specs.WellFormed.{IsPlanOf, KeepsRules};
-ghost use Rattle.fault_grade.specs.Results.{LoopsAt};
+ghost use Rattle.shard_rounds.specs.fault_grade.Results.{LoopsAt};
 ghost use Rattle.fault_shards.specs.Shards.{representatives_of};
 ghost use Rattle.shard_rounds.specs.shard_claims.Workers.{IsPlaceOf};
 ghost use Rattle.shard_rounds.specs.shard_crew.Crews.{claimed_most, HasGathered};
-ghost use Rattle.shard_workers.specs.Closings.{IsWork, IsAllGraded, TicksWithin};
+ghost use Rattle.shard_workers.specs.Closings.{IsWork, IsAllGraded, GradedTicks};
 ghost use Rattle.shard_workers.specs.Ordered.{work_steps};
 
 use crate::order::in_claim_order;
@@ -80,7 +80,7 @@ fn work_all<N: World, R: Threads + Sync, G: Gate + Sync, L: Ledger + Send + Sync
     requires counters { (1 ≤ length steps.old) × (length steps.old ≤ 64) }
     requires one { length own.old ≡ 1 }
     ensures graded { IfOk result (IsAllGraded N.design N.plan) }
-    ensures ticks { IfOk result (TicksWithin N.design N.plan (sum own.old + sum steps.old) (sum own.new + sum steps.new)) }
+    ensures ticks { IfOk result (GradedTicks N.design N.plan (sum own.old + sum steps.old) (sum own.new + sum steps.new)) }
 {
     let design = setup.design();
     let plan = setup.plan();
@@ -126,7 +126,7 @@ pub fn grade_all<N: World, R: Threads + Sync, G: Gate + Sync, L: Ledger + Send +
     requires workers { (1 ≤ workers) × (workers ≤ 64) }
     requires counters { workers < length steps.old }
     ensures graded { IfOk result (IsAllGraded (design_of design.now) (plan_of plan.now)) }
-    ensures ticks { IfOk result (TicksWithin (design_of design.now) (plan_of plan.now) (sum steps.old) (sum steps.new)) }
+    ensures ticks { IfOk result (GradedTicks (design_of design.now) (plan_of plan.now) (sum steps.old) (sum steps.new)) }
 {
     let graph = Graph::new(alloc, design)?;
     let setup = Setup::<N>::new(alloc, design, &graph, plan)?;

@@ -1,11 +1,11 @@
 // Grading a plan, of which contracts speak without a board.
 
-ghost use Rattle.std.specs.Prelude.{◌≡◌, ◌<◌, ◌≤◌, length, IfOk};
+ghost use Rattle.std.specs.Prelude.{◌≡◌, ◌<◌, ◌≤◌, ℕ, length, sum, IfOk};
 ghost use Rattle.v_design.specs.Designs.{FlatDesign, TestPlan};
 ghost use Rattle.v_design.specs.PlainDesigns.{design_of, plan_of};
 ghost use Rattle.v_design.specs.WellFormed.{IsPlanOf};
-ghost use Rattle.shard_workers.specs.Closings.{IsAllGraded};
-ghost use Rattle.shard_workers.specs.Results.{IsGraded, StandsInEveryOrder};
+ghost use Rattle.shard_workers.specs.Closings.{GradedTicks, IsAllGraded};
+ghost use Rattle.shard_workers.specs.Results.{IsGraded, PlanTicks, StandsInEveryOrder};
 
 use crate::grade::{Graded, grade_all};
 use std::alloc::Global;
@@ -25,7 +25,9 @@ pub enum PlanGrades {
 
 /// What was answered, without the board.
 fn without_board<N: World>(graded: Graded<N>) -> PlanGrades
-    ensures { (design : FlatDesign) (plan : TestPlan) → IsAllGraded design plan graded → IsGraded design plan result }
+    ensures grades { (design : FlatDesign) (plan : TestPlan) → IsAllGraded design plan graded → IsGraded design plan result }
+    ensures ticks { (design : FlatDesign) (plan : TestPlan) (before after : ℕ) → IsAllGraded design plan graded → GradedTicks design plan before after graded →
+        PlanTicks design plan before after result }
 {
     match graded {
         Graded::GoodLoop(time) => PlanGrades::GoodLoop(time),
@@ -47,7 +49,8 @@ fn grade_world<N: World, R: Threads + Sync, G: Gate + Sync, L: Ledger + Send + S
     requires plan { IsPlanOf (design_of design.now) (plan_of plan.now) }
     requires workers { (1 ≤ workers) × (workers ≤ 64) }
     requires counters { workers < length steps.old }
-    ensures { IfOk result (IsGraded (design_of design.now) (plan_of plan.now)) }
+    ensures grades { IfOk result (IsGraded (design_of design.now) (plan_of plan.now)) }
+    ensures ticks { IfOk result (PlanTicks (design_of design.now) (plan_of plan.now) (sum steps.old) (sum steps.new)) }
 {
     let graded = grade_all::<N, _, _, _>(rt, alloc, design, plan, workers, gate, steps)?;
     let grades = without_board(graded);
@@ -56,7 +59,8 @@ fn grade_world<N: World, R: Threads + Sync, G: Gate + Sync, L: Ledger + Send + S
 
 /// The findings on all listed faults of a plan, or the time at which the good machine loops, by so many workers.
 ///
-/// The first counter is the calling thread's, and each worker has one of those behind it.
+/// The first counter is the calling thread's, and each worker has one of those behind it. Where all faults are graded, all counters together rise by no more than the
+/// process steps of the good first run and twice those that the grading of each fault that stands for its class takes.
 ///
 /// # Errors
 ///
@@ -76,6 +80,7 @@ pub fn grade_plan<R: Threads + Sync, G: Gate + Sync, L: Ledger + Send + Sync>(
     // Exactly the grades, or exactly the good machine's loop.
     ensures grades { IfOk result (IsGraded (design_of design.now) (plan_of plan.now)) }
     ensures every_order { IfOk result (StandsInEveryOrder (design_of design.now) (plan_of plan.now)) }
+    ensures ticks { IfOk result (PlanTicks (design_of design.now) (plan_of plan.now) (sum steps.old) (sum steps.new)) }
 {
     order_laws::reports();
     order_laws::orders_exist();

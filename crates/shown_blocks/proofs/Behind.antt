@@ -22,9 +22,9 @@ use Rattle.block_changes.specs.Changes.{ends_wait_of, steps_process, steps_lane}
 use Rattle.block_states.specs.Leaving.{Leaves, BlocksLeave}
 use Rattle.boundary_laws.specs.Boundaries.{ProcessAtBoundary}
 use Rattle.boundary_laws.specs.Pending.{RunsAppend}
-use Rattle.moment_runs.specs.Taken.{StandsBehind, appended_behind}
-use Rattle.moment_parts.specs.Within.{IsWokenIf}
-use Rattle.lockstep_slots.specs.Places.{Place, state_there}
+use Rattle.moment_laws.specs.moment_runs.Taken.{StandsBehind, appended_behind}
+use Rattle.moment_laws.specs.moment_parts.Within.{IsWokenIf}
+use Rattle.moment_laws.specs.lockstep_slots.Places.{Place, state_there}
 use Rattle.shown_blocks.specs.Blocks.{BlockAt}
 use Rattle.shown_blocks.proofs.Ended.{last-run, appended-is, joined-append}
 use Rattle.moment_laws.proofs.Readied.{waits-there, readied-stands}

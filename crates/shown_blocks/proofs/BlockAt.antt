@@ -15,10 +15,10 @@ use Rattle.slot_record.specs.Records.{event_of}
 use Rattle.window_blocks.specs.Blocks.{AreBlockMoments, ArePhaseEnds, BlockBeginsIn, events_in, events_of}
 use Rattle.window_blocks.specs.Kept.{BlocksKept}
 use Rattle.trace_window.specs.Moments.{window_events}
-use Rattle.window_places.specs.Passing.{events_before}
-use Rattle.lockstep_slots.specs.Places.{Place, state_there}
-use Rattle.lockstep_slots.proofs.Followed.{IsFollowed}
-use Rattle.lockstep_places.specs.Places.{IsPlaceIn, PlacesTold}
+use Rattle.moment_laws.specs.window_places.Passing.{events_before}
+use Rattle.moment_laws.specs.lockstep_slots.Places.{Place, state_there}
+use Rattle.moment_laws.proofs.lockstep_slots.Followed.{IsFollowed}
+use Rattle.moment_laws.specs.lockstep_places.Places.{IsPlaceIn, PlacesTold}
 use Rattle.block_places.specs.Places.{BlocksAtPlaces}
 use Rattle.block_places.specs.Places as at_places
 use Rattle.causal_monitor.specs.declared.slot.Actor.{Actor}

@@ -17,7 +17,7 @@ use Rattle.between_slots.specs.Between.{activity_after_runs}
 use Rattle.phase_blocks.specs.Blocks.{IsBetweenRuns}
 use Rattle.boundary_ends.proofs.Counts.{own_enders, enders-run}
 use Rattle.block_changes.specs.Changes.{steps_process}
-use Rattle.moment_runs.specs.Taken.{count_of, appended_behind}
+use Rattle.moment_laws.specs.moment_runs.Taken.{count_of, appended_behind}
 
 -- Whose runs end
 

@@ -26,12 +26,12 @@ use Rattle.block_ends.specs.Ends.{EndsOfBlocks}
 use Rattle.boundary_laws.specs.Boundaries.{ProcessAtBoundary}
 use Rattle.boundary_laws.specs.Pending.{RunsAppend, LanesShorten}
 use Rattle.boundary_ends.proofs.Counts.{enders-append}
-use Rattle.moment_parts.specs.Within.{written_within}
-use Rattle.moment_parts.proofs.Written.{within-block}
-use Rattle.window_places.specs.Passing.{events_before}
-use Rattle.window_places.specs.Windows.{PlacesInWindows}
-use Rattle.lockstep_slots.specs.Places.{Place, IsPlaceOf, state_there}
-use Rattle.lockstep_places.specs.Places.{PlacesTold}
+use Rattle.moment_laws.specs.moment_parts.Within.{written_within}
+use Rattle.moment_laws.proofs.moment_parts.Written.{within-block}
+use Rattle.moment_laws.specs.window_places.Passing.{events_before}
+use Rattle.moment_laws.specs.window_places.Windows.{PlacesInWindows}
+use Rattle.moment_laws.specs.lockstep_slots.Places.{Place, IsPlaceOf, state_there}
+use Rattle.moment_laws.specs.lockstep_places.Places.{PlacesTold}
 use Rattle.moment_laws.specs.Places.{IsShownAt, runs_before}
 use Rattle.moment_laws.specs.Shown.{MomentKept}
 use Rattle.moment_laws.specs.Steps.{slot_enders}

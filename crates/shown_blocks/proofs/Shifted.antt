@@ -16,10 +16,10 @@ use Rattle.trace_window.specs.Touched.{event_writes}
 use Rattle.trace_window.specs.Writes.{Written, writes_from}
 use Rattle.phase_blocks.proofs.Lists.{happened-append}
 use Rattle.block_changes.specs.Changes.{ends_wait_of, steps_process, parts_changed}
-use Rattle.moment_parts.specs.Within.{written_within, put_all, IsWokenIf}
-use Rattle.moment_parts.proofs.Written.{put-events, put-other}
-use Rattle.window_wakes.specs.Wakes.{WakeTold}
-use Rattle.lockstep_slots.specs.Places.{Place, state_there}
+use Rattle.moment_laws.specs.moment_parts.Within.{written_within, put_all, IsWokenIf}
+use Rattle.moment_laws.proofs.moment_parts.Written.{put-events, put-other}
+use Rattle.moment_laws.specs.window_wakes.Wakes.{WakeTold}
+use Rattle.moment_laws.specs.lockstep_slots.Places.{Place, state_there}
 use Rattle.moment_laws.specs.Places.{IsShownAt}
 use Rattle.moment_laws.specs.Shown.{MomentKept}
 use Rattle.moment_laws.specs.Steps.{woken_within}

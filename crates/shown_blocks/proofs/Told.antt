@@ -18,7 +18,7 @@ use Rattle.trace_window.specs.Moments.{Seen, seen_from}
 use Rattle.trace_window.specs.Touched.{is_writing, writes, event_writes}
 use Rattle.trace_window.specs.Writes.{Written, write_before, writes_in, writes_from}
 use Rattle.block_changes.specs.Changes.{ends_wait_of}
-use Rattle.window_wakes.specs.Wakes.{WakeTold, is_told, has_wake, woken_at, comes_within}
+use Rattle.moment_laws.specs.window_wakes.Wakes.{WakeTold, is_told, has_wake, woken_at, comes_within}
 
 pub has-append : (xs ys : List ℕ) (n : ℕ) → has (xs ++ ys) n ≡ (has xs n || has ys n)
 has-append [] ys n = refl

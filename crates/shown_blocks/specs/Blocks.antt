@@ -9,7 +9,7 @@ use Rattle.between_slots.specs.Between.{window_phases}
 use Rattle.slot_record.specs.Records.{event_of}
 use Rattle.phase_blocks.specs.Blocks.{IsBetweenRuns, IsWholeBlock}
 use Rattle.window_blocks.specs.Kept.{BlocksKept, AreBlocksOf}
-use Rattle.lockstep_slots.specs.Places.{Place, state_there}
+use Rattle.moment_laws.specs.lockstep_slots.Places.{Place, state_there}
 use Rattle.shown_blocks.specs.Ahead.{IsAhead}
 use Rattle.moment_laws.specs.Places.{IsShownAt}
 use Rattle.moment_laws.specs.Shown.{MomentKept}

@@ -8,8 +8,8 @@ use Rattle.v_design.specs.Runs.{happened}
 use Rattle.trace_window.specs.Moments.{seen_from, window_events}
 use Rattle.trace_window.specs.Touched.{event_writes}
 use Rattle.block_changes.specs.Changes.{ends_wait_of}
-use Rattle.window_wakes.specs.Wakes.{WakeTold, has_wake, woken_at}
-use Rattle.lockstep_slots.specs.Places.{Place, state_there}
+use Rattle.moment_laws.specs.window_wakes.Wakes.{WakeTold, has_wake, woken_at}
+use Rattle.moment_laws.specs.lockstep_slots.Places.{Place, state_there}
 use Rattle.shown_blocks.specs.Blocks.{BlockAt}
 use Rattle.moment_laws.specs.Places.{IsShownAt}
 use Rattle.moment_laws.specs.Shown.{MomentKept}

@@ -8,13 +8,18 @@
 ghost use Rattle.shown_blocks.specs.Blocks.{BlocksAreAhead};
 ghost use Rattle.shown_blocks.specs.Passages.{PassagesTell};
 
+pub use moment_laws::{
+    Wake, WindowWakes, limits_tell, place_behind, places_are_told, places_in_windows,
+    slots_are_shown, take_runs, turns_are_shown,
+};
+
 /// Where the next block of the phase ends.
 pub fn blocks_are_ahead()
     ensures { BlocksAreAhead }
 {
     phase_order::phases_follow();
     phase_blocks::blocks_are_told();
-    lockstep_places::places_are_told();
+    moment_laws::places_are_told();
     block_places::blocks_at_places();
 }
 

@@ -14,16 +14,16 @@ use Rattle.between_slots.proofs.Leading.{through-get}
 use Rattle.between_slots.specs.Between.{slots_phases, window_phases}
 use Rattle.between_slots.specs.WindowLaws.{window_phases-more}
 use Rattle.machine_laws.specs.SlotLoop.{first_moment, steps_of}
-use Rattle.block_events.specs.declared.runner.Runner.{Runner}
+use Rattle.lockstep_block.specs.block_events.declared.runner.Runner.{Runner}
 use Rattle.copy_laws.specs.Differences.{Ascend}
 use Rattle.copy_laws.specs.Windows.{good_slots, window_slots}
 use Rattle.copy_state.specs.Kept.{CopyKept}
 use Rattle.lockstep_block.specs.moment_laws.Shown.{MomentKept}
-use Rattle.lockstep_copies.specs.Copies.{IsCopyInLockstep, own_begins}
-use Rattle.lockstep_copy.specs.Kept.{kept_by}
-use Rattle.lockstep_copy.specs.Laws.{KeptEnds}
-use Rattle.lockstep_copy.specs.declared.own.LockstepCopy.{LockstepCopy}
-use Rattle.lockstep_slots.specs.Places.{Place, first_place, steps_left}
+use Rattle.lockstep_block.specs.lockstep_copies.Copies.{IsCopyInLockstep, own_begins}
+use Rattle.lockstep_block.specs.lockstep_copy.Kept.{kept_by}
+use Rattle.lockstep_block.specs.lockstep_copy.Laws.{KeptEnds}
+use Rattle.lockstep_block.specs.lockstep_copy.declared.own.LockstepCopy.{LockstepCopy}
+use Rattle.lockstep_block.specs.lockstep_slots.Places.{Place, first_place, steps_left}
 use Rattle.lockstep_block.specs.lockstep_steps.Going.{IsGoing}
 use Rattle.lockstep_block.specs.lockstep_steps.Laws.{StepsGoOn}
 use Rattle.moments_stand.specs.Standing.{MomentsStand}

@@ -4,8 +4,8 @@ use Rattle.std.proofs.lemmas.List.{length-append}
 use Rattle.v_design.specs.Designs.{FlatDesign, StuckAt, TestPlan, good_machine}
 use Rattle.v_design.specs.Runs.{FirstSlot}
 use Rattle.v_design.specs.States.{State, Event}
-use Rattle.block_events.specs.declared.runner.Runner.{Runner}
-use Rattle.block_events.specs.Runners.{IsWhole, machine_of, state_of}
+use Rattle.lockstep_block.specs.block_events.declared.runner.Runner.{Runner}
+use Rattle.lockstep_block.specs.block_events.Runners.{IsWhole, machine_of, state_of}
 use Rattle.lockstep_block.specs.moment_laws.Passing.{PassesBlock}
 use Rattle.lockstep_block.specs.moment_laws.Places.{IsShownAt}
 use Rattle.lockstep_block.specs.moment_laws.Shown.{MomentKept}
@@ -13,13 +13,13 @@ use Rattle.lockstep_block.specs.moment_laws.Shown as moments
 use Rattle.lockstep_block.specs.Blocks.{FaultGoes}
 use Rattle.lockstep_block.specs.Own.{MayRunOwn, RoomStays}
 use Rattle.lockstep_block.specs.Rooms.{CanFollow, IsLockstepRoom, IsRunnerAt}
-use Rattle.lockstep_copy.specs.declared.own.LockstepCopy.{LockstepCopy}
+use Rattle.lockstep_block.specs.lockstep_copy.declared.own.LockstepCopy.{LockstepCopy}
 use Rattle.lockstep_block.specs.lockstep_room.declared.counts.Counts.{Counts}
 use Rattle.lockstep_block.specs.lockstep_room.Rooms.{AreCounts}
-use Rattle.lockstep_slots.specs.Places.{Place, behind_events, state_there}
+use Rattle.lockstep_block.specs.lockstep_slots.Places.{Place, behind_events, state_there}
 use Rattle.race_notes.specs.Notes.{NotesKept}
 use Rattle.trace_window.specs.Moments.{window_events}
-use Rattle.window_places.specs.Passing.{events_before}
+use Rattle.lockstep_block.specs.window_places.Passing.{events_before}
 use Rattle.slot_laws.specs.Slots.{GoesFurther, GoesOverBlock, SlotGoesOn, further}
 use Rattle.slot_laws.proofs.Further.{further-behind, further-none}
 use Rattle.slot_laws.proofs.Rooms.{beside, goes-over, shows-whole}

@@ -5,12 +5,12 @@ use Rattle.v_design.specs.Runs.{happened}
 use Rattle.v_design.specs.States.{State, Event, after}
 use Rattle.between_slots.specs.Between.{window_phases}
 use Rattle.copy_laws.proofs.ReadRuns.{time-after}
-use Rattle.block_events.specs.declared.runner.Runner.{Runner}
+use Rattle.lockstep_block.specs.block_events.declared.runner.Runner.{Runner}
 use Rattle.lockstep_block.specs.moment_laws.Passing.{HasBlock, PassesBlock}
 use Rattle.lockstep_block.specs.moment_laws.Places.{IsInWindow, IsShownAt}
 use Rattle.lockstep_block.specs.moment_laws.Shown.{MomentKept, ShowsState}
 use Rattle.lockstep_block.specs.moment_laws.Shown as moments
-use Rattle.lockstep_slots.specs.Places.{Place, state_there, behind_events}
+use Rattle.lockstep_block.specs.lockstep_slots.Places.{Place, state_there, behind_events}
 use Rattle.lockstep_block.specs.lockstep_room.declared.counts.Counts.{Counts}
 use Rattle.lockstep_block.specs.lockstep_room.Rooms.{AreCounts}
 use Rattle.lockstep_block.specs.Rooms.{CanFollow, IsBesideBlock, IsLockstepRoom, IsRunnerAt}

@@ -4,7 +4,7 @@ use Rattle.std.proofs.lemmas.List.Sums.{sum_by_push}
 use Rattle.v_design.specs.Designs.{Machine}
 use Rattle.v_design.specs.Grades.{Phase}
 use Rattle.v_design.specs.States.{Event, TurnKind}
-use Rattle.machine.specs.Ticks.{event_steps, phase_steps, step_of, steps_so_far}
+use Rattle.lockstep_block.specs.machine.Ticks.{event_steps, phase_steps, step_of, steps_so_far}
 use Rattle.machine_laws.specs.SlotLoop.{Moment, after_event, after_events, after_turn, present_phase}
 
 event-on : (machine : Machine) (event : Event) (at : Moment) → steps_so_far at ≤ steps_so_far (after_event machine event at)

@@ -10,10 +10,10 @@
 ghost use Rattle.slot_laws.specs.Laws.{NextBlocksAreOne, SlotsAreCounted};
 
 pub use lockstep_block::{
-    FaultInSlot, FilterRoom, GoodMoment, LockstepRoom, follow_block, is_free, run_own_block,
-    stand_at, steps_go_on,
+    FaultInSlot, FilterRoom, GoodMoment, LockstepCopy, LockstepRoom, WindowWakes, begin_slot,
+    follow_block, is_free, kept_ends, lanes_tell_turns, limits_tell, places_are_told,
+    run_own_block, slot_steps_go_on, stand_at, steps_go_on, turn_writes,
 };
-pub use lockstep_places::{limits_tell, places_are_told};
 
 /// Of the events that a machine takes one part at most is its next block.
 pub fn next_blocks_are_one()

@@ -9,7 +9,7 @@ use Rattle.v_design.specs.Runs.{FirstSlot}
 use Rattle.v_design.specs.WellFormed.{IsAscending, KeepsRules}
 use Rattle.copy_laws.specs.Windows.{good_slots, time_at}
 use Rattle.beside_laws.specs.GoodRuns.{GoodRunGoesOn}
-use Rattle.window_strobes.specs.Passed.{HasPassed}
+use Rattle.lockstep_shards.specs.window_strobes.Passed.{HasPassed}
 use Rattle.lockstep_shards.proofs.Laws.{last, last-there, some-is, time-there}
 use Rattle.slot_strobes.specs.Counts.{AllBetween, CountsBy}
 use Rattle.slot_strobes.proofs.Lists.{at-ascending, at-take, holds-drop, holds-take}

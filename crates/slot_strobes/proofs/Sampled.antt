@@ -21,11 +21,11 @@ use Rattle.grade_laws.specs.Grading.{good_seen, good_stop, times}
 use Rattle.beside_laws.specs.GoodRuns.{GoodRunGoesOn}
 use Rattle.beside_laws.specs.Stands.{IsSince, RunsStand}
 use Rattle.good_trace.specs.Slots.{end_of}
-use Rattle.window_strobes.specs.Leading.{EndsSo, IsLed}
-use Rattle.window_strobes.specs.Passed.{HasPassed}
-use Rattle.window_strobes.specs.Seen.{AreSeen, AreSeenIf}
-use Rattle.window_strobes.specs.Strobes.{AreStrobesOf, passed_behind}
-use Rattle.window_strobes.specs.declared.strobes.WindowStrobes.{WindowStrobes}
+use Rattle.lockstep_shards.specs.window_strobes.Leading.{EndsSo, IsLed}
+use Rattle.lockstep_shards.specs.window_strobes.Passed.{HasPassed}
+use Rattle.lockstep_shards.specs.window_strobes.Seen.{AreSeen, AreSeenIf}
+use Rattle.lockstep_shards.specs.window_strobes.Strobes.{AreStrobesOf, passed_behind}
+use Rattle.lockstep_shards.specs.window_strobes.declared.strobes.WindowStrobes.{WindowStrobes}
 use Rattle.lockstep_shards.proofs.Laws.{fine-there, last, last-there, next-later, open-at, some-is, stops-later, time-there}
 use Rattle.slot_strobes.specs.Counts.{CountsBy, samples_of}
 use Rattle.slot_strobes.proofs.Counted.{passed-behind}

@@ -1,6 +1,7 @@
 -- Watched bits of both machines (bits by IEEE 1364-2001, clause 3.1).
-use Rattle.std.proofs.Common.{◌≡◌, ℕ, ◌<◌, false, List, length, refl, sym, ap, ◌∙◌}
+use Rattle.std.proofs.Common.{◌≡◌, ℕ, ◌<◌, true, false, List, length, refl, sym, ap, ◌∙◌}
 use Rattle.std.specs.Prelude.{None}
+use Rattle.four_value.specs.Bits.{same_bit}
 use Rattle.four_value.specs.Values.{LogicValue, bit_at}
 use Rattle.four_value.specs.declared.logic.Bit.{Bit}
 use Rattle.four_value.specs.declared.logic.Bit.TheVariants.{Zero, One, X, Z}
@@ -25,6 +26,12 @@ same-not-possible One = refl
 same-not-possible X = refl
 same-not-possible Z = refl
 
+same-bit-is : (bit : Bit) → same_bit bit bit ≡ true
+same-bit-is Zero = refl
+same-bit-is One = refl
+same-bit-is X = refl
+same-bit-is Z = refl
+
 module _ (good : List LogicValue) (own : List (ℕ × LogicValue)) (watched : WatchedBit) (within : watched.object < length good) where
   -- of an object of which no value is kept
   module _ (none : own_of own watched.object ≡ None) where
@@ -36,6 +43,9 @@ module _ (good : List LogicValue) (own : List (ℕ × LogicValue)) (watched : Wa
 
     pub alike-not-possible : false ≡ is_possible (bit_in good watched) (bit_in (faulty_values good own) watched)
     alike-not-possible = sym (ap (is_possible (bit_in good watched)) alike ∙ same-not-possible (bit_in good watched))
+
+    pub alike-same : true ≡ same_bit (bit_in (faulty_values good own) watched) (bit_in good watched)
+    alike-same = sym (ap (λ (bit : Bit). same_bit bit (bit_in good watched)) alike ∙ same-bit-is (bit_in good watched))
 
   -- and of any
   pub own-bit : (value : LogicValue) (bit : Bit) → bit ≡ bit_at (found_or value (own_of own watched.object)) watched.bit → value ≡ value_at good watched.object →

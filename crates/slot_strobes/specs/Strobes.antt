@@ -6,11 +6,11 @@ use Rattle.vf_base.specs.Base.{WatchedBit}
 use Rattle.v_design.specs.Assignments.{value_at}
 use Rattle.v_design.specs.Designs.{FlatDesign, StuckAt, TestPlan, good_machine}
 use Rattle.v_design.specs.Grades.{Detected, Judged}
-use Rattle.strobe_detect.specs.Graders.{GraderState}
 use Rattle.between_slots.specs.Between.{state_through}
 use Rattle.copy_laws.specs.Differences.{Differences}
 use Rattle.copy_laws.specs.Windows.{state_at}
-use Rattle.beside_laws.specs.Gradings.{EndsAt, GradingGoesOn}
+use Rattle.fault_strobes.specs.Said.{Said}
+use Rattle.fault_strobes.specs.Strobes.{EndsWith, StrobesGoOn}
 use Rattle.lockstep_shards.specs.Shards.{StandsAtStrobe}
 
 -- a watched bit of some values
@@ -22,22 +22,18 @@ pub record StandsBeforeSlot (design : FlatDesign) (plan : TestPlan) (fault : Stu
   pub stands : StandsAtStrobe design plan fault d strobe
   pub state_is : state_at (good_machine design) plan.end strobe ≡ state_through design plan gone
 
--- the grader of a fault of which no strobe had a hard detection so far, and the one at this time, if there is one, was the first with a possible one
-abbrev pub grader_with : TestPlan → Option ℕ → GraderState
-grader_with plan possible = record { watched = plan.watched; hard = None; possible = possible }
-
--- the grading of a fault goes on, behind so many of the plan's strobes, of which this one, if there is one, was the first with a possible detection
-pub record IsGradingBehind (design : FlatDesign) (plan : TestPlan) (fault : StuckAt) (count : ℕ) (possible : Option ℕ) : Type 0 where
+-- the grading of a fault goes on, behind so many of the plan's strobes, which said this
+pub record IsGradingBehind (design : FlatDesign) (plan : TestPlan) (fault : StuckAt) (count : ℕ) (said : Said) : Type 0 where
   pub now : Option ℕ
-  pub goes : GradingGoesOn design plan fault now (take count plan.strobes) (drop count plan.strobes) (grader_with plan possible)
+  pub goes : StrobesGoOn design plan fault now (take count plan.strobes) (drop count plan.strobes) said
 
 -- the grading of a fault ends with a hard detection at one of the plan's strobes from one number on and before another
-pub record IsFoundAt (design : FlatDesign) (plan : TestPlan) (fault : StuckAt) (first end time : ℕ) : Type 0 where
+pub record IsFoundAt (design : FlatDesign) (plan : TestPlan) (fault : StuckAt) (first end time : ℕ) (said : Said) : Type 0 where
   pub place : ℕ
   pub since : first ≤ place
   pub before : place < end
   pub at : slice_get plan.strobes place ≡ Some time
-  pub ends : EndsAt design plan fault time (Judged (Detected time))
+  pub ends : EndsWith design plan fault time (Judged (Detected time)) said
 
 -- just so many of some strobes come before a time
 pub record ComeBefore (strobes : List ℕ) (count time : ℕ) : Type 0 where
@@ -45,7 +41,7 @@ pub record ComeBefore (strobes : List ℕ) (count time : ℕ) : Type 0 where
   pub before : (place strobe : ℕ) → place < count → slice_get strobes place ≡ Some strobe → strobe < time
   pub since : (place strobe : ℕ) → count ≤ place → slice_get strobes place ≡ Some strobe → time ≤ strobe
 
--- strobes were shown up to a count: the grading goes on behind them, with this time of the first possible detection, if there was one, or it ended with a hard detection at one of them
-abbrev pub IsSeenTo : FlatDesign → TestPlan → StuckAt → ℕ → ℕ → Option ℕ → Option ℕ → Type 0
-IsSeenTo design plan fault first end possible None = IsGradingBehind design plan fault end possible
-IsSeenTo design plan fault first end possible (Some time) = IsFoundAt design plan fault first end time
+-- strobes were shown up to a count: the grading goes on behind them, with what they said, or it ended with a hard detection at one of them
+abbrev pub IsSeenTo : FlatDesign → TestPlan → StuckAt → ℕ → ℕ → Said → Option ℕ → Type 0
+IsSeenTo design plan fault first end said None = IsGradingBehind design plan fault end said
+IsSeenTo design plan fault first end said (Some time) = IsFoundAt design plan fault first end time said

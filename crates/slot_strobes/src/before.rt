@@ -2,7 +2,7 @@
 
 ghost use Rattle.std.specs.Prelude.{◌+◌, ◌<◌, ◌≤◌, length};
 ghost use Rattle.copy_laws.specs.Windows.{good_slots};
-ghost use Rattle.window_strobes.specs.Passed.{HasPassed};
+ghost use Rattle.lockstep_shards.specs.window_strobes.Passed.{HasPassed};
 
 use crate::count::strobes_by;
 use good_trace::{Setup, TraceWindow};

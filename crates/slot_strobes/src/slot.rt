@@ -7,18 +7,42 @@ ghost use Rattle.v_design.specs.Grades.{samples};
 ghost use Rattle.kept_samples.specs.Plain.{sample_of};
 ghost use Rattle.between_slots.specs.Between.{state_through};
 ghost use Rattle.copy_laws.specs.Windows.{good_slots};
-ghost use Rattle.window_strobes.specs.Passed.{HasPassed};
-ghost use Rattle.window_strobes.specs.Strobes.{AreStrobesOf, passed_behind};
-ghost use Rattle.window_strobes.specs.Watched.{IsObjectOf};
+ghost use Rattle.lockstep_shards.specs.window_strobes.Passed.{HasPassed};
+ghost use Rattle.lockstep_shards.specs.window_strobes.Strobes.{AreStrobesOf, passed_behind};
+ghost use Rattle.lockstep_shards.specs.window_strobes.Watched.{IsObjectOf};
 ghost use Rattle.slot_strobes.specs.Counts.{samples_of};
 
 use crate::count::strobes_by;
+use four_value::Bit;
 use good_trace::{GoodEnd, Setup, TraceWindow};
 use kept_samples::Sample;
+use lockstep_shards::{WindowStrobes, good_bits};
 use std::alloc::Global;
 use v_design::World;
 use vf_base::{NoMemory, Seq, WatchBit};
-use window_strobes::{WindowStrobes, good_bits};
+
+/// Puts a sample with the same bits for each of some strobes behind others.
+///
+/// # Errors
+///
+/// Want of memory.
+pub(crate) fn push_samples(
+    alloc: Global,
+    bits: &[Bit],
+    strobes: &[u64],
+    kept: &mut Vec<Sample>,
+) -> Result<(), NoMemory>
+    ensures { OnOk result (map sample_of kept.new.items ≡ map sample_of kept.old.items ++ samples_of bits.now strobes.now) }
+{
+    'strobes: for strobe in strobes {
+        let own = Vec::from_slice(alloc, bits)?;
+        kept.push(Sample {
+            time: *strobe,
+            bits: Seq::from_vec(own),
+        })?;
+    }
+    Ok(())
+}
 
 /// Puts the good machine's samples at some strobes before a slot of a window behind others: they all have the same bits.
 fn push_each<N: World>(
@@ -35,13 +59,7 @@ fn push_each<N: World>(
         ++ samples_of (samples (map watched_bit watched.now) (state_through N.design N.plan (window.now.before + slot)).values) strobes.now) }
 {
     let bits = good_bits(alloc, window, watched, slot)?;
-    'strobes: for strobe in strobes {
-        let own = Vec::from_slice(alloc, bits.as_slice())?;
-        kept.push(Sample {
-            time: *strobe,
-            bits: Seq::from_vec(own),
-        })?;
-    }
+    push_samples(alloc, bits.as_slice(), strobes, kept)?;
     Ok(())
 }
 

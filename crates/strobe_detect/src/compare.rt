@@ -18,7 +18,7 @@ pub struct Shown {
 }
 
 /// Whether a good bit is 0 or 1 and the faulty bit opposite.
-pub(crate) fn is_hard(good: Bit, faulty: Bit) -> bool
+pub fn is_hard(good: Bit, faulty: Bit) -> bool
     ensures { result ≡ is_hard_pair good faulty }
 {
     matches!(
@@ -28,7 +28,7 @@ pub(crate) fn is_hard(good: Bit, faulty: Bit) -> bool
 }
 
 /// Whether a good bit is 0 or 1 and the faulty bit x or z.
-pub(crate) fn is_possible(good: Bit, faulty: Bit) -> bool
+pub fn is_possible(good: Bit, faulty: Bit) -> bool
     ensures { result ≡ is_possible_pair good faulty }
 {
     matches!((good, faulty), (Bit::Zero | Bit::One, Bit::X | Bit::Z))

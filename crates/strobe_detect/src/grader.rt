@@ -126,8 +126,8 @@ impl<'w> Grader<'w> {
     }
 }
 
-/// A time that stands, else this one where it counts.
-fn first_of(standing: Option<u64>, counts: bool, time: u64) -> Option<u64>
+/// A time, in steps, that stands, else this one where it counts.
+pub fn first_of(standing: Option<u64>, counts: bool, time: u64) -> Option<u64>
     ensures { result ≡ first_time standing counts time }
 {
     match standing {

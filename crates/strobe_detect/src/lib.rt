@@ -10,6 +10,7 @@ mod grader;
 mod hard;
 mod kept;
 
-pub use grader::{Grade, Grader};
+pub use compare::{Shown, is_hard, is_possible};
+pub use grader::{Grade, Grader, first_of};
 pub use hard::Hard;
 pub use kept::{is_detected, shows_kept, watched_bits};

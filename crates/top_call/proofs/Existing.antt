@@ -4,10 +4,10 @@ use Rattle.vf_base.specs.Shelf.{Files, content_of}
 use Rattle.v_design.specs.Designs.{FlatDesign, TestPlan}
 use Rattle.soak_text.specs.Soak as soaks
 use Rattle.design_report.specs.Texts.{check_text}
-use Rattle.plan_report.specs.declared.extent.Extent.TheVariants.{Lines, Totals}
-use Rattle.dict_report.specs.Outputs as outputs
-use Rattle.cert_report.specs.Audits as audits
-use Rattle.grades_exist.specs.Existing.{NeverLoops}
+use Rattle.outputs_exist.specs.plan_report.declared.extent.Extent.TheVariants.{Lines, Totals}
+use Rattle.outputs_exist.specs.dict_report.Outputs as outputs
+use Rattle.outputs_exist.specs.cert_report.Audits as audits
+use Rattle.outputs_exist.specs.grades_exist.Existing.{NeverLoops}
 use Rattle.outputs_exist.specs.Existing.{ReportsExist, DictionaryOutputsExist, CertificatesExist, FaultsTextsExist}
 use Rattle.soak_meanings.specs.SoakMeanings.{TextsAreAccepted}
 use Rattle.vf_words.specs.Words.{Source, Form, Grade, Check, Faults, Soak, Dict, Diagnose, Certify, Audit, Pick, Fits}

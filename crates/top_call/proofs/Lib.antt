@@ -4,3 +4,4 @@ pub mod Making
 pub mod OverTest
 pub mod Existing
 pub mod Completing
+pub use Rattle.vf_status.proofs.elaborate as elaborate

@@ -10,19 +10,19 @@ use Rattle.v_scan.specs.Texts as tokens
 use Rattle.v_scan.specs.declared.fault.ScanFault.{ScanFault}
 use Rattle.v_scan.specs.declared.fault.ScanFault.TheVariants as scans
 use Rattle.v_design.specs.Designs.{FlatDesign}
-use Rattle.elaborate.specs.declared.design_fault.DesignFault.{DesignFault}
-use Rattle.elaborate.specs.declared.design_fault.DesignFault.TheVariants as designs
-use Rattle.elaborate.specs.ElabFaults as elab_faults
-use Rattle.elaborate.specs.Meanings as texts
+use Rattle.vf_status.specs.elaborate.declared.design_fault.DesignFault.{DesignFault}
+use Rattle.vf_status.specs.elaborate.declared.design_fault.DesignFault.TheVariants as designs
+use Rattle.vf_status.specs.elaborate.ElabFaults as elab_faults
+use Rattle.vf_status.specs.elaborate.Meanings as texts
 use Rattle.design_report.specs.Texts.{check_text, IsTheFaultsText}
 use Rattle.plan_read.specs.Spelled as plans
 use Rattle.plan_read.specs.declared.fault.PlanFault.{PlanFault}
 use Rattle.plan_read.specs.declared.fault.PlanFault.TheVariants as plan_faults
-use Rattle.plan_report.specs.declared.fault.ReportFault.{ReportFault}
-use Rattle.plan_report.specs.declared.fault.ReportFault.TheVariants as reported
-use Rattle.plan_report.specs.Reports as reports
-use Rattle.plan_report.specs.declared.extent.Extent.TheVariants.{Lines, Totals}
-use Rattle.plan_report.specs.OneMeaning.{no-reason}
+use Rattle.outputs_exist.specs.plan_report.declared.fault.ReportFault.{ReportFault}
+use Rattle.outputs_exist.specs.plan_report.declared.fault.ReportFault.TheVariants as reported
+use Rattle.outputs_exist.specs.plan_report.Reports as reports
+use Rattle.outputs_exist.specs.plan_report.declared.extent.Extent.TheVariants.{Lines, Totals}
+use Rattle.outputs_exist.specs.plan_report.OneMeaning.{no-reason}
 use Rattle.soak_text.specs.Soak as soaks
 use Rattle.soak_meanings.specs.SoakMeanings.{TextsAreAccepted}
 use Rattle.v_elab.specs.declared.Mode.TheVariants.{Usual}

@@ -16,14 +16,14 @@ use Rattle.response_text.specs.Spelled as responses
 use Rattle.response_text.specs.declared.fault.ResponseFault.{ResponseFault}
 use Rattle.response_text.specs.declared.fault.ResponseFault.TheVariants as response_faults
 use Rattle.dict_text.specs.Dictionaries.{room_of, most_room, too_large}
-use Rattle.dict_report.specs.declared.fault.OutputFault.{OutputFault}
-use Rattle.dict_report.specs.declared.fault.OutputFault.TheVariants as output_faults
-use Rattle.dict_report.specs.Outputs as outputs
-use Rattle.dict_report.specs.Orders as orders
-use Rattle.cert_report.specs.declared.fault.CertifyFault.{CertifyFault}
-use Rattle.cert_report.specs.declared.fault.CertifyFault.TheVariants as certify_faults
-use Rattle.cert_report.specs.Certificates as certificates
-use Rattle.cert_report.specs.Audits as audits
+use Rattle.outputs_exist.specs.dict_report.declared.fault.OutputFault.{OutputFault}
+use Rattle.outputs_exist.specs.dict_report.declared.fault.OutputFault.TheVariants as output_faults
+use Rattle.outputs_exist.specs.dict_report.Outputs as outputs
+use Rattle.outputs_exist.specs.dict_report.Orders as orders
+use Rattle.outputs_exist.specs.cert_report.declared.fault.CertifyFault.{CertifyFault}
+use Rattle.outputs_exist.specs.cert_report.declared.fault.CertifyFault.TheVariants as certify_faults
+use Rattle.outputs_exist.specs.cert_report.Certificates as certificates
+use Rattle.outputs_exist.specs.cert_report.Audits as audits
 use Rattle.vf_words.specs.Words.{Source, Form, Diagnose, Certify, Audit}
 use Rattle.vf_status.specs.declared.status.Which.TheVariants as whiches
 use Rattle.vf_status.specs.declared.status.Refusal.{Refusal}

@@ -3,9 +3,9 @@ use Rattle.std.specs.Prelude.{◌≡◌, ◌≢◌, ℕ, ◌<◌, ◌≤◌, ◌
 use Rattle.vf_base.specs.Shelf.{Files, content_of}
 use Rattle.v_design.specs.Designs.{FlatDesign, TestPlan}
 use Rattle.v_design.specs.Grades.{Sample}
-use Rattle.elaborate.specs.declared.design_fault.DesignFault.{DesignFault}
-use Rattle.elaborate.specs.declared.design_fault.DesignFault.TheVariants as designs
-use Rattle.elaborate.specs.Meanings as texts
+use Rattle.vf_status.specs.elaborate.declared.design_fault.DesignFault.{DesignFault}
+use Rattle.vf_status.specs.elaborate.declared.design_fault.DesignFault.TheVariants as designs
+use Rattle.vf_status.specs.elaborate.Meanings as texts
 use Rattle.design_report.specs.Texts.{check_text, IsFaultsText}
 use Rattle.v_elab.specs.declared.Mode.TheVariants.{Usual}
 use Rattle.soak_text.specs.Soak as soaks
@@ -16,18 +16,18 @@ use Rattle.response_text.specs.Spelled as responses
 use Rattle.response_text.specs.declared.fault.ResponseFault.{ResponseFault}
 use Rattle.response_text.specs.declared.fault.ResponseFault.TheVariants as response_faults
 use Rattle.dict_text.specs.Dictionaries.{too_large}
-use Rattle.dict_report.specs.declared.fault.OutputFault.{OutputFault}
-use Rattle.dict_report.specs.declared.fault.OutputFault.TheVariants as output_faults
-use Rattle.dict_report.specs.Outputs as outputs
-use Rattle.dict_report.specs.Orders as orders
-use Rattle.cert_report.specs.declared.fault.CertifyFault.{CertifyFault}
-use Rattle.cert_report.specs.declared.fault.CertifyFault.TheVariants as certify_faults
-use Rattle.cert_report.specs.Certificates as certificates
-use Rattle.cert_report.specs.Audits as audits
-use Rattle.plan_report.specs.declared.extent.Extent.TheVariants.{Lines, Totals}
-use Rattle.plan_report.specs.declared.fault.ReportFault.{ReportFault}
-use Rattle.plan_report.specs.declared.fault.ReportFault.TheVariants as reported
-use Rattle.plan_report.specs.Reports as reports
+use Rattle.outputs_exist.specs.dict_report.declared.fault.OutputFault.{OutputFault}
+use Rattle.outputs_exist.specs.dict_report.declared.fault.OutputFault.TheVariants as output_faults
+use Rattle.outputs_exist.specs.dict_report.Outputs as outputs
+use Rattle.outputs_exist.specs.dict_report.Orders as orders
+use Rattle.outputs_exist.specs.cert_report.declared.fault.CertifyFault.{CertifyFault}
+use Rattle.outputs_exist.specs.cert_report.declared.fault.CertifyFault.TheVariants as certify_faults
+use Rattle.outputs_exist.specs.cert_report.Certificates as certificates
+use Rattle.outputs_exist.specs.cert_report.Audits as audits
+use Rattle.outputs_exist.specs.plan_report.declared.extent.Extent.TheVariants.{Lines, Totals}
+use Rattle.outputs_exist.specs.plan_report.declared.fault.ReportFault.{ReportFault}
+use Rattle.outputs_exist.specs.plan_report.declared.fault.ReportFault.TheVariants as reported
+use Rattle.outputs_exist.specs.plan_report.Reports as reports
 use Rattle.vf_words.specs.Words.{Source, Form, Grade, Check, Faults, Soak, Dict, Diagnose, Certify, Audit, Pick}
 use Rattle.vf_status.specs.declared.status.Which.{Which}
 use Rattle.vf_status.specs.declared.status.Which.TheVariants as whiches

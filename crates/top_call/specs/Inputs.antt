@@ -4,12 +4,12 @@ use Rattle.vf_base.specs.Shelf.{Files}
 use Rattle.v_design.specs.Designs.{FlatDesign, TestPlan, StuckAt}
 use Rattle.v_design.specs.Grades.{Sample}
 use Rattle.v_elab.specs.declared.Mode.TheVariants.{Usual}
-use Rattle.elaborate.specs.Meanings as texts
+use Rattle.vf_status.specs.elaborate.Meanings as texts
 use Rattle.plan_read.specs.Spelled as plans
 use Rattle.soak_text.specs.Soak as soaks
-use Rattle.grades_exist.specs.Existing.{NeverLoops}
+use Rattle.outputs_exist.specs.grades_exist.Existing.{NeverLoops}
 use Rattle.dict_text.specs.Dictionaries.{too_large}
-use Rattle.cert_report.specs.Certificates.{listed}
+use Rattle.outputs_exist.specs.cert_report.Certificates.{listed}
 use Rattle.vf_words.specs.Words.{Source, Form, Grade, Check, Faults, Soak, Dict, Diagnose, Certify, Audit, Pick, Fits}
 use Rattle.vf_status.specs.declared.status.Which.TheVariants as whiches
 use Rattle.top_call.specs.Answers.{Outputs, IsFile, HoldResponse, IsAnswer}

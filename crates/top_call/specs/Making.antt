@@ -7,8 +7,8 @@ use Rattle.v_design.specs.Designs.{FlatDesign, TestPlan}
 use Rattle.v_design.specs.PlainDesigns.{design_of, plan_of}
 use Rattle.v_design.specs.declared.plan.Design.{Design}
 use Rattle.v_design.specs.declared.plan.Plan.{Plan}
-use Rattle.elaborate.specs.declared.design_fault.DesignFault.{DesignFault}
-use Rattle.elaborate.specs.Meanings as texts
+use Rattle.vf_status.specs.elaborate.declared.design_fault.DesignFault.{DesignFault}
+use Rattle.vf_status.specs.elaborate.Meanings as texts
 use Rattle.plan_read.specs.Spelled as plans
 use Rattle.plan_read.specs.declared.fault.PlanFault.{PlanFault}
 use Rattle.plan_read.specs.declared.fault.PlanFault.TheVariants as plan_faults
@@ -17,12 +17,12 @@ use Rattle.kept_samples.specs.declared.kept.Sample.{Sample}
 use Rattle.response_text.specs.Spelled as responses
 use Rattle.response_text.specs.declared.fault.ResponseFault.{ResponseFault}
 use Rattle.response_text.specs.declared.fault.ResponseFault.TheVariants as response_faults
-use Rattle.dict_report.specs.declared.fault.OutputFault.{OutputFault}
-use Rattle.dict_report.specs.declared.fault.OutputFault.TheVariants as output_faults
-use Rattle.cert_report.specs.declared.fault.CertifyFault.{CertifyFault}
-use Rattle.cert_report.specs.declared.fault.CertifyFault.TheVariants as certify_faults
-use Rattle.plan_report.specs.declared.fault.ReportFault.{ReportFault}
-use Rattle.plan_report.specs.declared.fault.ReportFault.TheVariants as reported
+use Rattle.outputs_exist.specs.dict_report.declared.fault.OutputFault.{OutputFault}
+use Rattle.outputs_exist.specs.dict_report.declared.fault.OutputFault.TheVariants as output_faults
+use Rattle.outputs_exist.specs.cert_report.declared.fault.CertifyFault.{CertifyFault}
+use Rattle.outputs_exist.specs.cert_report.declared.fault.CertifyFault.TheVariants as certify_faults
+use Rattle.outputs_exist.specs.plan_report.declared.fault.ReportFault.{ReportFault}
+use Rattle.outputs_exist.specs.plan_report.declared.fault.ReportFault.TheVariants as reported
 use Rattle.vf_words.specs.Words.{Source, Form}
 use Rattle.vf_status.specs.declared.status.Which.{Which}
 use Rattle.vf_status.specs.declared.status.Which.TheVariants as whiches

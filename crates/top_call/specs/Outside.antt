@@ -7,7 +7,7 @@ use Rattle.vf_base.specs.declared.shelf.Shelf.{Ghosts}
 use Rattle.v_scan.specs.declared.fault.ScanFault.TheVariants as scans
 use Rattle.v_parse.specs.declared.fault.ParseFault.TheVariants as parses
 use Rattle.v_design.specs.Designs.{FlatDesign, TestPlan}
-use Rattle.elaborate.specs.declared.fault.ElabFault.TheVariants as elabs
+use Rattle.vf_status.specs.elaborate.declared.fault.ElabFault.TheVariants as elabs
 use Rattle.plan_read.specs.declared.fault.PlanFault.TheVariants as plans
 use Rattle.response_text.specs.declared.fault.ResponseFault.TheVariants as responses
 use Rattle.dict_text.specs.Dictionaries.{most_room}

@@ -10,7 +10,7 @@ use crate::dictionary::output_status;
 use crate::plan::{read_observed, read_test_plan};
 use crate::purpose::Purpose;
 use crate::source::read_source;
-use dict_report::diagnose_output;
+use outputs_exist::diagnose_output;
 use std::alloc::Global;
 use std::sync::ledger::Ledger;
 use vf_base::{Shelf, Steps};

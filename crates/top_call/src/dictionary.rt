@@ -9,7 +9,7 @@ ghost use Rattle.top_call.specs.Making as making;
 use crate::plan::read_test_plan;
 use crate::purpose::Purpose;
 use crate::source::read_source;
-use dict_report::{OutputFault, dict_output, pick_output};
+use outputs_exist::{OutputFault, dict_output, pick_output};
 use std::alloc::Global;
 use std::sync::ledger::Ledger;
 use vf_base::{Shelf, Steps};

@@ -7,7 +7,7 @@ ghost use Rattle.top_call.specs.Outside.{counts_of, CanEnd};
 ghost use Rattle.top_call.specs.Making as making;
 
 use crate::source::{read_file, read_source};
-use plan_report::{Extent, ReportFault, plan_report};
+use outputs_exist::{Extent, ReportFault, plan_report};
 use std::alloc::Global;
 use std::sync::ledger::Ledger;
 use std::thread::Threads;

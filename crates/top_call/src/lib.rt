@@ -23,3 +23,4 @@ mod top;
 
 pub use counting::{COUNTERS, counters};
 pub use top::vfault;
+pub use vf_status::{Status, code, line, read_design};

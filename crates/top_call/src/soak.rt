@@ -3,7 +3,7 @@
 ghost use Rattle.std.specs.Prelude.{◌≡◌, ◌≤◌, ◌<◌, [], length, codes, Some, Ok, IfOk, IfErr};
 ghost use Rattle.v_design.specs.PlainDesigns.{design_of};
 ghost use Rattle.v_elab.specs.declared.Mode.TheVariants.{Usual};
-ghost use Rattle.elaborate.specs.Meanings.{IsTheMeaning};
+ghost use Rattle.vf_status.specs.elaborate.Meanings.{IsTheMeaning};
 ghost use Rattle.soak_text.specs.Soak as soaks;
 ghost use Rattle.vf_words.specs.Words.{Soak};
 ghost use Rattle.top_call.specs.Outside.{ShelfCounts, CanEnd};
@@ -11,8 +11,7 @@ ghost use Rattle.top_call.specs.Making as making;
 
 use crate::grade::report_status;
 use crate::source::design_status;
-use elaborate::read_design;
-use plan_report::{Extent, plan_report};
+use outputs_exist::{Extent, plan_report};
 use soak_meanings::texts_accepted;
 use soak_text::{design_text, plan_text};
 use std::alloc::Global;
@@ -21,7 +20,7 @@ use std::thread::Threads;
 use v_design::Design;
 use v_elab::Mode;
 use vf_base::{Gate, Steps};
-use vf_status::Status;
+use vf_status::{Status, read_design};
 
 /// The generated design of a number and a size; its text is never refused, so that memory alone can be wanting.
 fn soak_design(alloc: Global, number: u32, size: u32) -> Result<Design, Status>

@@ -7,13 +7,12 @@ ghost use Rattle.top_call.specs.Answers.{most_of};
 ghost use Rattle.top_call.specs.Outside.{counts_of};
 ghost use Rattle.top_call.specs.Making as making;
 
-use cert_report::MAX_CERT_BYTES;
-use elaborate::{DesignFault, read_design};
+use outputs_exist::MAX_CERT_BYTES;
 use response_text::MAX_RESPONSE_BYTES;
 use std::alloc::Global;
 use v_design::Design;
 use vf_base::{MAX_DESIGN_BYTES, MAX_PLAN_BYTES, Shelf, ShelfFault};
-use vf_status::{Refusal, Status, Which};
+use vf_status::{DesignFault, Refusal, Status, Which, read_design};
 use vf_words::Source;
 
 /// The most bytes of a file.

@@ -1,18 +1,17 @@
 -- What is kept of the listed faults, one by one.
-use Rattle.std.proofs.Common.{◌≡◌, ℕ, zero, suc, ◌+◌, ◌<◌, ◌≤◌, List, [], ◌∷◌, ◌++◌, length, take, get_or, map, sym, ap, subst, ◌∙◌, arith, length-take-le}
+use Rattle.std.proofs.Common.{◌≡◌, ℕ, zero, suc, ◌+◌, ◌<◌, ◌≤◌, List, [], ◌∷◌, ◌++◌, length, take, map, refl, sym, ap, subst, ◌∙◌, arith, length-take-le}
 use Rattle.std.specs.Prelude.{Some, slice_get}
 use Rattle.std.specs.List.{AllZip}
 use Rattle.std.specs.Option.{option_map}
-use Rattle.std.proofs.lemmas.List.{length_push, length-map, map_push, get_or-map, take_all, take_more}
-use Rattle.std.proofs.lemmas.Option.{same_Some, get_or_from_slice_get, slice_get-get_or, slice_get_within}
+use Rattle.std.proofs.lemmas.List.{length_push, map_push, take_all, take_more}
+use Rattle.std.proofs.lemmas.Option.{same_Some, get_or_from_slice_get, slice_get_within}
 use Rattle.vf_base.specs.Base.{fault_number}
 use Rattle.vf_base.specs.declared.ids.FaultId.{FaultId}
 use Rattle.v_design.specs.Designs.{FlatDesign, StuckAt, TestPlan}
 use Rattle.v_design.specs.Expressions.{up_from}
-use Rattle.v_design.specs.Plain.{grade_of, fault_of}
+use Rattle.v_design.specs.Plain.{grade_of}
 use Rattle.v_design.specs.Sites.{AreOneClass}
 use Rattle.v_design.specs.WellFormed.{KeepsRules}
-use Rattle.v_design.specs.declared.plan.Fault.{Fault}
 use Rattle.fault_list.specs.FullGrades.{FullGradesAgree}
 use Rattle.kept_samples.specs.Plain.{sample_of}
 use Rattle.kept_samples.specs.Kept.{Keeps}
@@ -84,9 +83,21 @@ kept-copied design plan one other same own number law rules alike k is = (
   record { end = ap (λ (x : Kept). option_map grade_of x.end) is ∙ k.2.end; differs = ap (λ (x : Kept). map sample_of x.differs) is ∙ k.2.differs },
 )
 
--- a listed fault at its place in the code's list
-pub listed-at : (faults seen : List Fault) (place : ℕ) (d : Fault) → seen ≡ faults → place < length seen → slice_get (map fault_of faults) place ≡ Some (fault_of (get_or seen place d))
-listed-at faults seen place d same below =
-    subst (λ (l : List Fault). slice_get (map fault_of l) place ≡ Some (fault_of (get_or seen place d))) same
-    (let size : length (map fault_of seen) ≡ length seen = length-map seen fault_of in
-    slice_get-get_or (map fault_of seen) place (fault_of d) (omega (arith, below, size)) ∙ ap (λ (f : StuckAt). Some f) (get_or-map fault_of seen place d (fault_of d) below))
+-- a list has an element at each place below its length
+pub element-at : {A : Type 0} (xs : List A) (k : ℕ) → k < length xs → (x : A) × (slice_get xs k ≡ Some x)
+element-at [] k below = absurd (omega (arith, below))
+element-at (x ∷ xs) zero below = (x, refl)
+element-at (x ∷ xs) (suc k) below = element-at xs k (omega (arith, below))
+
+-- lists that agree place by place are as long as each other
+zip-length : {A B : Type 0} (P : A → B → Type 0) (xs : List A) (ys : List B) → AllZip P xs ys → length xs ≡ length ys
+zip-length P [] [] h = refl
+zip-length P [] (y ∷ ys) h = absurd h
+zip-length P (x ∷ xs) [] h = absurd h
+zip-length P (x ∷ xs) (y ∷ ys) h = let rest : length xs ≡ length ys = zip-length P xs ys h.1 in omega (arith, rest)
+
+-- so many faults are kept
+pub kept-count : (design : FlatDesign) (plan : TestPlan) (faults : List StuckAt) (kept : List Kept) (count : ℕ) → count < length faults → AreKept design plan (take count faults) kept →
+    length kept ≡ count
+kept-count design plan faults kept count below so =
+    sym (zip-length (Keeps design plan) (take count faults) kept so.each) ∙ length-take-le count faults (omega (arith, below))

@@ -1,76 +1,87 @@
 // What is kept of all listed faults.
 
-ghost use Rattle.std.specs.Prelude.{◌≡◌, take, slice_get, Some, IfOk};
+ghost use Rattle.std.specs.Prelude.{◌≡◌, ◌+◌, ◌<◌, IfOk, length, take};
+ghost use Rattle.std.specs.Vec.Iter.{into_iter_items};
 ghost use Rattle.vf_base.specs.Base.{fault_number};
-ghost use Rattle.v_design.specs.Plain.{fault_of};
-ghost use Rattle.fault_list.specs.Classes.{AreClasses};
-ghost use Rattle.grade_laws.specs.Grading.{IsGoodRun};
-ghost use Rattle.kept_samples.specs.Kept.{Keeps};
-ghost use Rattle.fault_grade.specs.Benches.{IsBench, bench_design, bench_plan};
-ghost use Rattle.fault_grade.specs.Samples.{samples_kept};
-ghost use Rattle.fault_grade.specs.Stops.{race_if};
-ghost use Rattle.vf_dict.specs.Listings.{AreKept};
+ghost use Rattle.vf_base.specs.Lists.{AllHold};
+ghost use Rattle.dict_windows.specs.kept_shard.Keeping.{KeptWhole, numbers_of};
+ghost use Rattle.fault_shards.specs.Representatives.{IsRepresentative};
+ghost use Rattle.fault_shards.specs.Shards.{AreShardsOf, representatives_of};
+ghost use Rattle.vf_dict.specs.Listings.{AreKept, AreLeft};
 
-use fault_grade::{Bench, GoodSamples};
-use fault_list::{classes, representative};
-use full_grades::keep_fault;
+use fault_shards::Shards;
+use good_trace::Setup;
 use kept_samples::Kept;
 use std::alloc::Global;
-use std::sync::ledger::Ledger;
-use v_design::Fault;
-use vf_base::{FaultId, NoMemory, Steps};
+use std::vec::IntoIter;
+use v_design::World;
+use vf_base::{FaultId, NoMemory};
 
-/// What is kept of a listed fault, beside those before it: the same as of an earlier fault of its class, else its machine is run.
-fn keep_listed<L: Ledger>(
+/// Takes what is kept of a fault that stands for its class, which is the next one of those that are left.
+fn next_kept<N: World>(rest: &mut IntoIter<Kept, Global>, number: FaultId) -> Kept
+    requires left { AreLeft N.design N.plan (fault_number number) (into_iter_items rest.old) }
+    requires stands { IsRepresentative N.design N.plan.faults (fault_number number) }
+    ensures left { AreLeft N.design N.plan (fault_number number + 1) (into_iter_items rest.new) }
+    ensures whole { KeptWhole N.design N.plan result }
+    ensures number { result.fault ≡ number }
+{
+    match rest.next() {
+        Some(own) => own,
+        None => unreachable!(),
+    }
+}
+
+/// What is kept of a listed fault, beside those before it: the same as of an earlier fault of its class, else its own, which is the next one of those that are left.
+fn keep_listed<N: World>(
     alloc: Global,
-    bench: &Bench<'_>,
-    good: &GoodSamples,
-    places: &[u32],
+    setup: &Setup<'_, N>,
+    shards: &Shards,
     earlier: &[Kept],
+    rest: &mut IntoIter<Kept, Global>,
     number: FaultId,
-    fault: Fault,
-    steps: &mut Steps<L>,
 ) -> Result<Kept, NoMemory>
-    requires bench { IsBench bench.now }
-    requires good { IsGoodRun (bench_design bench.now) (bench_plan bench.now) (samples_kept good.now) (race_if good.now.race) }
-    requires places { AreClasses (bench_design bench.now) (bench_plan bench.now).faults places.now }
-    requires earlier { AreKept (bench_design bench.now) (bench_plan bench.now) (take (fault_number number) (bench_plan bench.now).faults) earlier.now }
-    requires listed { slice_get (bench_plan bench.now).faults (fault_number number) ≡ Some (fault_of fault) }
-    ensures kept { IfOk result (Keeps (bench_design bench.now) (bench_plan bench.now) (fault_of fault)) }
+    requires shards { AreShardsOf N.design N.plan.faults shards.now }
+    requires earlier { AreKept N.design N.plan (take (fault_number number) N.plan.faults) earlier.now }
+    requires left { AreLeft N.design N.plan (fault_number number) (into_iter_items rest.old) }
+    requires listed { fault_number number < length N.plan.faults }
+    ensures whole { IfOk result (λ kept. KeptWhole N.design N.plan kept) }
     ensures number { IfOk result (λ kept. kept.fault ≡ number) }
+    ensures left { IfOk result (λ _. AreLeft N.design N.plan (fault_number number + 1) (into_iter_items rest.new)) }
 {
     fault_list::one_full_class();
-    let first = representative(places, number);
+    let _design = setup.design();
+    let first = shards.representative(number);
     match earlier.get(first.0 as usize) {
         Some(same) => {
             let copied = same.copy(alloc, number)?;
             Ok(copied)
         }
         None => {
-            let own = keep_fault(alloc, bench, good, fault, number, steps)?;
+            let own = next_kept::<N>(rest, number);
             Ok(own)
         }
     }
 }
 
-/// What is kept of each listed fault, in list order.
-pub(crate) fn keep_all<L: Ledger>(
+/// What is kept of each listed fault, in list order, by what is kept of those that stand for their classes.
+pub(crate) fn keep_all<N: World>(
     alloc: Global,
-    bench: &Bench<'_>,
-    good: &GoodSamples,
-    steps: &mut Steps<L>,
+    setup: &Setup<'_, N>,
+    shards: &Shards,
+    kept: Vec<Kept>,
 ) -> Result<Vec<Kept>, NoMemory>
-    requires bench { IsBench bench.now }
-    requires good { IsGoodRun (bench_design bench.now) (bench_plan bench.now) (samples_kept good.now) (race_if good.now.race) }
-    ensures { IfOk result (λ kept. AreKept (bench_design bench.now) (bench_plan bench.now) (bench_plan bench.now).faults kept.items) }
+    requires shards { AreShardsOf N.design N.plan.faults shards.now }
+    requires whole { AllHold (KeptWhole N.design N.plan) kept.items }
+    requires faults { numbers_of kept.items ≡ representatives_of shards.now }
+    ensures { IfOk result (λ kept. AreKept N.design N.plan N.plan.faults kept.items) }
 {
-    let faults = bench.plan.faults.as_slice();
-    let places = classes(alloc, bench.design, faults)?;
-    let mut kept = Vec::new(alloc);
-    'faults: for (place, fault) in faults.iter().enumerate() {
+    let plan = setup.plan();
+    let mut rest = kept.into_iter();
+    let mut listed = Vec::new(alloc);
+    'faults: for place in 0..plan.faults.as_slice().len() {
         let number = FaultId(place as u32);
-        let own = keep_listed(alloc, bench, good, &places, &kept, number, *fault, steps)?;
-        kept.push(own)?;
+        let own = keep_listed(alloc, setup, shards, &listed, &mut rest, number)?;
+        listed.push(own)?;
     }
-    Ok(kept)
+    Ok(listed)
 }

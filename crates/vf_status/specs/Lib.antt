@@ -1,1 +1,2 @@
 pub mod Status
+pub use Rattle.elaborate.specs as elaborate

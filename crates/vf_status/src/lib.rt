@@ -7,5 +7,6 @@
 mod message;
 mod status;
 
+pub use elaborate::{DesignFault, ElabFault, read_design};
 pub use message::line;
 pub use status::{Refusal, Status, Which, code};

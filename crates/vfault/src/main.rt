@@ -16,9 +16,8 @@ use std::process::ExitCode;
 use std::rt::{Env, Files};
 use std::sync::ledger::{Blank, Ledger};
 use std::thread::Threads;
-use top_call::{COUNTERS, counters, vfault};
+use top_call::{COUNTERS, Status, code, counters, line, vfault};
 use vf_base::{FolderShelf, NoMemory, OpenGate, OutSink};
-use vf_status::{Status, code, line};
 
 /// A run of the program over the files of the system and standard output.
 fn run<L: Ledger + Send + Sync, R: Threads + Sync + Files + Print>(

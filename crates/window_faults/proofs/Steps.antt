@@ -1,15 +1,18 @@
 -- The process steps of a fault's grading from slot to slot (steps by IEEE 1364-2001, clause 9; slots by clause 5).
-use Rattle.std.proofs.Common.{◌≡◌, ℕ, ◌≤◌, true, false, refl, sym, ap, subst, ◌∙◌, arith}
+use Rattle.std.proofs.Common.{◌≡◌, ℕ, ◌≤◌, Bool, true, false, refl, sym, ap, subst, ◌∙◌, arith}
 use Rattle.std.specs.Prelude.{Option, Some, None, is_some, option_map, slice_get}
 use Rattle.std.proofs.lemmas.Option.{same_Some}
 use Rattle.vf_base.specs.declared.finding.End.{End}
-use Rattle.v_design.specs.Designs.{FlatDesign, StuckAt, TestPlan}
+use Rattle.v_design.specs.Designs.{FlatDesign, StuckAt, TestPlan, faulty_machine}
 use Rattle.v_design.specs.Plain.{grade_of}
 use Rattle.v_design.specs.WellFormed.{KeepsRules}
 use Rattle.copy_laws.specs.Windows.{IsBesideAt}
-use Rattle.graded_steps.specs.Gradings.{GradingsTakeSteps}
-use Rattle.copy_window.specs.ShardFaults.{IsShardFault, beside_by, steps_taken}
-use Rattle.copy_window.specs.declared.fault.ShardFault.{ShardFault}
+use Rattle.slot_strobes.specs.graded_steps.Gradings.{GradingsTakeSteps}
+use Rattle.slot_strobes.specs.graded_steps.Behind.{steps_up_to}
+use Rattle.fault_strobes.specs.Said.{plan_by}
+use Rattle.fault_strobes.proofs.Faults.{time-same}
+use Rattle.slot_strobes.specs.copy_window.ShardFaults.{IsShardFault, SameFault, beside_by, kept_by, steps_taken}
+use Rattle.slot_strobes.specs.copy_window.declared.fault.ShardFault.{ShardFault}
 use Rattle.window_faults.specs.Steps.{StaysFault, TakesNoFewer, steps_of_fault}
 
 -- those of a listed fault
@@ -32,6 +35,12 @@ steps-ended design plan from until own some = go (slice_get plan.faults own.copy
     go None (Some end) e = refl
     go (Some f) (Some end) e = refl
 
+-- the strobes that may end a grading don't change what it takes
+taken-same : (design : FlatDesign) (plan : TestPlan) (kept : Bool) (gone : ℕ) (fault : StuckAt) (end : Option End) →
+    steps_taken design (plan_by kept plan) gone fault end ≡ steps_taken design plan gone fault end
+taken-same design plan kept gone fault None = ap (λ (t : Option ℕ). steps_up_to (faulty_machine design fault) t) (time-same design plan kept gone)
+taken-same design plan kept gone fault (Some end) = refl
+
 module _ (take : GradingsTakeSteps) (design : FlatDesign) (plan : TestPlan) (rules : KeepsRules design) (from until : ℕ) (low : from ≤ until) where
   -- behind more slots no fewer
   pub steps-later : (gone passed : ℕ) (own : ShardFault) → IsShardFault design plan gone passed own → steps_of_fault design plan from own ≤ steps_of_fault design plan until own
@@ -46,19 +55,22 @@ module _ (take : GradingsTakeSteps) (design : FlatDesign) (plan : TestPlan) (rul
       go (Some end) some = (let same = steps-ended design plan from until own (ap is_some some) in omega (arith, same))
 
   -- so it is where a grading went on from one place to the other, and maybe ended by then
-  module _ (passed behind : ℕ) (old new : ShardFault) (none : old.end ≡ None) (place : new.copy.fault ≡ old.copy.fault) (one : IsShardFault design plan from passed old)
+  module _ (passed behind : ℕ) (old new : ShardFault) (none : old.end ≡ None) (place : SameFault old new) (one : IsShardFault design plan from passed old)
       (other : IsShardFault design plan until behind new) where
     same-fault : other.fault ≡ one.fault
-    same-fault = same_Some other.fault one.fault (sym other.listed ∙ (ap (slice_get plan.faults) place ∙ one.listed))
+    same-fault = same_Some other.fault one.fault (sym other.listed ∙ (ap (slice_get plan.faults) place.number ∙ one.listed))
 
     pub steps-more : steps_of_fault design plan from old ≤ steps_of_fault design plan until new
     steps-more =
         let a = steps-open design plan from old one.fault one.listed none in
-        let b = steps-are design plan until new one.fault (ap (slice_get plan.faults) place ∙ one.listed) in
-        let more : steps_taken design plan from one.fault None ≤ steps_taken design plan until one.fault new.end =
-        take.more design plan from until (beside_by design one.fault old) (beside_by design one.fault new) rules low refl (ap (option_map grade_of) none) one.beside
-        (subst (λ (f : StuckAt). IsBesideAt design plan until (beside_by design f new)) same-fault other.beside) in
-        omega (arith, a, b, more)
+        let b = steps-are design plan until new one.fault (ap (slice_get plan.faults) place.number ∙ one.listed) in
+        let a-by = taken-same design plan (kept_by old) from one.fault None in
+        let more : steps_taken design (plan_by (kept_by old) plan) from one.fault None ≤ steps_taken design (plan_by (kept_by old) plan) until one.fault new.end =
+        take.more design (plan_by (kept_by old) plan) from until (beside_by design one.fault old) (beside_by design one.fault new) rules low refl (ap (option_map grade_of) none) one.beside
+        (subst (λ (k : Bool). IsBesideAt design (plan_by k plan) until (beside_by design one.fault new)) place.kind
+        (subst (λ (f : StuckAt). IsBesideAt design (plan_by (kept_by new) plan) until (beside_by design f new)) same-fault other.beside)) in
+        let to-by = taken-same design plan (kept_by old) until one.fault new.end in
+        omega (arith, a, b, a-by, to-by, more)
 
     -- and measured behind the first so many slots
     pub steps-here : steps_of_fault design plan from old ≤ steps_of_fault design plan from new
@@ -67,23 +79,23 @@ module _ (take : GradingsTakeSteps) (design : FlatDesign) (plan : TestPlan) (rul
         go : (end : Option End) → new.end ≡ end → steps_of_fault design plan from old ≤ steps_of_fault design plan from new
         go None still =
             let a = steps-open design plan from old one.fault one.listed none in
-            let b = steps-open design plan from new one.fault (ap (slice_get plan.faults) place ∙ one.listed) still in
+            let b = steps-open design plan from new one.fault (ap (slice_get plan.faults) place.number ∙ one.listed) still in
             omega (arith, a, b)
         go (Some end) some = (let same = steps-ended design plan from until new (ap is_some some) in let more = steps-more in omega (arith, same, more))
 
 -- Faults that stay
 
 pub stays-same : (own : ShardFault) → StaysFault own own
-stays-same own = record { place = refl; ended = λ some. refl }
+stays-same own = record { place = record { number = refl; kind = refl }; ended = λ some. refl }
 
 pub stays-on : (x y z : ShardFault) → StaysFault x y → StaysFault y z → StaysFault x z
 stays-on x y z one two = record {
-  place = two.place ∙ one.place;
+  place = record { number = two.place.number ∙ one.place.number; kind = two.place.kind ∙ one.place.kind };
   ended = λ some. two.ended (ap (λ (own : ShardFault). is_some own.end) (one.ended some) ∙ some) ∙ one.ended some;
 }
 
 -- one whose grading hadn't ended may change
-pub stays-open : (x y : ShardFault) → y.copy.fault ≡ x.copy.fault → x.end ≡ None → StaysFault x y
+pub stays-open : (x y : ShardFault) → SameFault x y → x.end ≡ None → StaysFault x y
 stays-open x y place none = record { place = place; ended = λ some. absurd (let no : is_some x.end ≡ false = ap is_some none in cc) }
 
 module _ (design : FlatDesign) (plan : TestPlan) (gone : ℕ) where

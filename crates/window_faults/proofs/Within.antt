@@ -15,13 +15,14 @@ use Rattle.v_design.specs.declared.plan.Fault.{Fault}
 use Rattle.v_design.specs.declared.plan.Plan.{Plan}
 use Rattle.copy_laws.specs.Windows.{good_slots, time_at}
 use Rattle.beside_laws.specs.Shards.{FaultsGoOn}
-use Rattle.window_strobes.specs.Passed.{HasPassed}
-use Rattle.window_strobes.specs.Strobes.{AreStrobesOf}
-use Rattle.window_strobes.specs.declared.strobes.WindowStrobes.{WindowStrobes}
+use Rattle.slot_strobes.specs.window_strobes.Passed.{HasPassed}
+use Rattle.slot_strobes.specs.window_strobes.Strobes.{AreStrobesOf}
+use Rattle.slot_strobes.specs.window_strobes.declared.strobes.WindowStrobes.{WindowStrobes}
 use Rattle.slot_strobes.proofs.Lists.{at-drop, at-take}
-use Rattle.copy_window.specs.Passing.{CanResume}
-use Rattle.copy_window.specs.ShardFaults.{GoesOnAt, IsShardFault, beside_by}
-use Rattle.copy_window.specs.declared.fault.ShardFault.{ShardFault}
+use Rattle.slot_strobes.specs.copy_window.Passing.{CanResume}
+use Rattle.fault_strobes.specs.Said.{plan_by}
+use Rattle.slot_strobes.specs.copy_window.ShardFaults.{GoesOnAt, IsShardFault, beside_by, kept_by}
+use Rattle.slot_strobes.specs.copy_window.declared.fault.ShardFault.{ShardFault}
 use Rattle.window_faults.specs.Steps.{StaysFault}
 use Rattle.window_faults.specs.Within.{AreWithin, ComesThrough, HasComeTo, IsWithin, StandsAfter}
 use Rattle.window_faults.specs.declared.at.FaultAt.{FaultAt}
@@ -61,8 +62,9 @@ ended-later law design plan rules gone later passed count own low some stands =
       fault = stands.fault;
       listed = stands.listed;
       beside =
-          law.stays design plan gone later (beside_by design stands.fault own) (grade_of found.0) rules low stands.beside
+          law.stays design (plan_by (kept_by own) plan) gone later (beside_by design stands.fault own) (grade_of found.0) rules low stands.beside
           (ap (λ (end : Option End). option_map grade_of end) found.1);
+      full = stands.full;
       within = stands.within;
       goes_on = λ time e more none. (let no : is_some own.end ≡ false = ap (λ (end : Option End). is_some end) none in cc);
     }
@@ -97,6 +99,7 @@ module _ (design : FlatDesign) (plan : TestPlan) (gone one other : ℕ) (has : H
     fault = stands.fault;
     listed = stands.listed;
     beside = stands.beside;
+    full = stands.full;
     within = stands.within;
     goes_on = λ time is more none. subst (λ n. GoesOnAt design plan gone n stands.fault time own) (same-passed time is more) (stands.goes_on time is more none);
   }

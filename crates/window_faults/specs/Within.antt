@@ -1,9 +1,9 @@
 -- The faults of a shard within a window (strobes by the plan; slots by IEEE 1364-2001, clause 5).
 use Rattle.std.specs.Prelude.{◌≡◌, ℕ, ◌+◌, ◌≤◌, true, List, length, None, Some, is_some, slice_get}
 use Rattle.v_design.specs.Designs.{FlatDesign, StuckAt, TestPlan}
-use Rattle.window_strobes.specs.Passed.{HasPassed}
-use Rattle.copy_window.specs.ShardFaults.{IsShardFault}
-use Rattle.copy_window.specs.declared.fault.ShardFault.{ShardFault}
+use Rattle.slot_strobes.specs.window_strobes.Passed.{HasPassed}
+use Rattle.slot_strobes.specs.copy_window.ShardFaults.{IsShardFault, SameFault}
+use Rattle.slot_strobes.specs.copy_window.declared.fault.ShardFault.{ShardFault}
 use Rattle.window_faults.specs.declared.at.FaultAt.{FaultAt}
 
 -- a fault of which nothing was found has gone through so many slots, up to which so many strobes come
@@ -34,5 +34,5 @@ pub record AreWithin (design : FlatDesign) (plan : TestPlan) (before through slo
 -- a fault came through a window to so many slots: it is the same fault, and stays as it is if its grading had ended
 pub record ComesThrough (design : FlatDesign) (plan : TestPlan) (through passed : ℕ) (old new : ShardFault) : Type 0 where
   pub stands : IsShardFault design plan through passed new
-  pub place : new.copy.fault ≡ old.copy.fault
+  pub place : SameFault old new
   pub ended : is_some old.end ≡ true → new ≡ old

@@ -1,14 +1,14 @@
 // How far a fault has come in a window.
 
 ghost use Rattle.std.specs.Prelude.{◌≡◌, ◌≤◌, length};
-ghost use Rattle.window_strobes.specs.Strobes.{passed_behind};
+ghost use Rattle.slot_strobes.specs.window_strobes.Strobes.{passed_behind};
 
 use good_trace::Setup;
+use slot_strobes::WindowStrobes;
 use v_design::World;
-use window_strobes::WindowStrobes;
 
-/// Through how many slots of a window a fault has gone, and how many of the plan's strobes come up to the last one; and where it enters the next slot in lockstep, how many were
-/// seen before that slot's time, and the time, in steps, of the first possible detection among them, if there was one.
+/// Through how many slots of a window a fault has gone, and how many of the plan's strobes come up to the last one; and where it enters the next slot in lockstep, how many come
+/// before that slot's time, and the time, in steps, of the first possible detection among them, if they judged the fault and there was one.
 #[derive(Clone, Copy, Debug)]
 pub struct FaultAt {
     pub slot: u32,

@@ -5,22 +5,19 @@ ghost use Rattle.std.specs.List.{AllZip};
 ghost use Rattle.v_design.specs.Plain.{fault_of};
 ghost use Rattle.vf_base.specs.Lists.{AllHold};
 ghost use Rattle.copy_laws.specs.Windows.{good_slots, time_at};
-ghost use Rattle.window_strobes.specs.Passed.{HasPassed};
-ghost use Rattle.window_strobes.specs.Strobes.{AreStrobesOf, passed_behind};
-ghost use Rattle.copy_window.specs.ShardFaults.{IsShardFault};
+ghost use Rattle.slot_strobes.specs.window_strobes.Passed.{HasPassed};
+ghost use Rattle.slot_strobes.specs.window_strobes.Strobes.{AreStrobesOf, passed_behind};
+ghost use Rattle.slot_strobes.specs.copy_window.ShardFaults.{IsShardFault};
 ghost use Rattle.window_faults.specs.Steps.{TakesNoFewer};
 ghost use Rattle.window_faults.specs.Within.{AreWithin, IsWithin};
 
 use crate::at::{FaultAt, comes_to, count_behind};
-use copy_pass::pass_over;
 use copy_state::FaultCopy;
-use copy_window::ShardFault;
 use good_trace::{Setup, TraceWindow};
-use slot_strobes::strobes_before;
+use slot_strobes::{ShardFault, WindowStrobes, pass_over, strobes_before};
 use std::alloc::Global;
 use v_design::{Fault, World};
 use vf_base::NoMemory;
-use window_strobes::WindowStrobes;
 
 /// The fault of a copy.
 pub fn listed_fault<N: World>(setup: &Setup<'_, N>, copy: &FaultCopy) -> Fault
@@ -51,7 +48,7 @@ fn pass_first<N: World>(
     ensures within { IsWithin N.design N.plan window.now.before window.now.through own.new result }
     ensures steps { TakesNoFewer N.design N.plan window.now.before own.old own.new }
 {
-    graded_steps::gradings_take_steps();
+    slot_strobes::gradings_take_steps();
     let design = setup.design();
     let fault = listed_fault(setup, &own.copy);
     let slots = window.slots();

@@ -11,5 +11,4 @@ mod whole;
 
 pub use at::{FaultAt, comes_to};
 pub use begin::{begin_each, listed_fault};
-pub use copy_window::{begin_fault, new_fault, new_room};
 pub use whole::run_whole;

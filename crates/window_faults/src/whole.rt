@@ -2,24 +2,23 @@
 
 ghost use Rattle.std.specs.Prelude.{◌≡◌, ◌+◌, ◌<◌, None, IfOk, OnOk};
 ghost use Rattle.v_design.specs.Plain.{fault_of};
-ghost use Rattle.copy_room.specs.Rooms.{IsRoom};
-ghost use Rattle.graded_steps.specs.Behind.{RisesWithin};
-ghost use Rattle.window_strobes.specs.Passed.{HasPassed};
-ghost use Rattle.window_strobes.specs.Strobes.{AreStrobesOf, passed_behind};
-ghost use Rattle.copy_window.specs.ShardFaults.{IsShardFault, steps_taken};
+ghost use Rattle.slot_strobes.specs.copy_room.Rooms.{IsRoom};
+ghost use Rattle.slot_strobes.specs.graded_steps.Behind.{RisesWithin};
+ghost use Rattle.slot_strobes.specs.window_strobes.Passed.{HasPassed};
+ghost use Rattle.slot_strobes.specs.window_strobes.Strobes.{AreStrobesOf, passed_behind};
+ghost use Rattle.slot_strobes.specs.copy_window.ShardFaults.{IsShardFault, SameFault, steps_taken};
 ghost use Rattle.window_faults.specs.Within.{HasComeTo, IsWithin, StandsAfter};
 
 use crate::at::{FaultAt, comes_to, count_behind};
 use causal_monitor::SlotLog;
-use copy_window::{ShardFault, resume_fault};
 use good_trace::{Setup, TraceWindow};
-use machine::Machine;
-use slot_strobes::strobes_of_slot;
+use slot_strobes::{
+    Machine, ShardFault, WindowStrobes, resume_fault, strobes_after, strobes_of_slot,
+};
 use std::alloc::Global;
 use std::sync::ledger::Ledger;
 use v_design::{Fault, World};
 use vf_base::{NoMemory, Steps};
-use window_strobes::{WindowStrobes, strobes_after};
 
 /// Grades a fault through the slots of a window that come behind so many.
 fn resume_behind<N: World, L: Ledger>(
@@ -40,7 +39,7 @@ fn resume_behind<N: World, L: Ledger>(
     requires strobes { AreStrobesOf N.design N.plan window.now.before window.now.through strobes.now }
     requires fault { StandsAfter N.design N.plan (window.now.before + passed) strobes.now.passed (fault_of fault) own.old }
     ensures fault { OnOk result (IsShardFault N.design N.plan window.now.through (passed_behind strobes.now) own.new) }
-    ensures place { OnOk result (own.new.copy.fault ≡ own.old.copy.fault) }
+    ensures place { OnOk result (SameFault own.old own.new) }
     ensures room { OnOk result (IsRoom N.design machine.new) }
     ensures ticks { OnOk result (RisesWithin (steps_taken N.design N.plan (window.now.before + passed) (fault_of fault) None)
         (steps_taken N.design N.plan window.now.through (fault_of fault) own.new.end) steps.old steps.new) }
@@ -78,7 +77,7 @@ fn run_slot<N: World, L: Ledger>(
     requires fault { HasComeTo N.design N.plan (fault_of fault) (window.now.before + slot) passed own.old }
     ensures fault { IfOk result (λ behind. IsShardFault N.design N.plan (window.now.before + (slot + 1)) behind own.new) }
     ensures strobes { IfOk result (λ behind. HasPassed N.design N.plan (window.now.before + (slot + 1)) behind) }
-    ensures place { OnOk result (own.new.copy.fault ≡ own.old.copy.fault) }
+    ensures place { OnOk result (SameFault own.old own.new) }
     ensures room { OnOk result (IsRoom N.design machine.new) }
     ensures ticks { OnOk result (RisesWithin (steps_taken N.design N.plan (window.now.before + slot) (fault_of fault) None)
         (steps_taken N.design N.plan (window.now.before + (slot + 1)) (fault_of fault) own.new.end) steps.old steps.new) }
@@ -120,7 +119,7 @@ pub fn run_whole<N: World, L: Ledger>(
     requires fault { HasComeTo N.design N.plan (fault_of fault) (window.now.before + at.slot) at.passed own.old }
     ensures slot { IfOk result (λ came. came.slot ≡ at.slot + 1) }
     ensures within { IfOk result (IsWithin N.design N.plan window.now.before window.now.through own.new) }
-    ensures place { OnOk result (own.new.copy.fault ≡ own.old.copy.fault) }
+    ensures place { OnOk result (SameFault own.old own.new) }
     ensures room { OnOk result (IsRoom N.design machine.new) }
     ensures ticks { OnOk result (RisesWithin (steps_taken N.design N.plan (window.now.before + at.slot) (fault_of fault) None)
         (steps_taken N.design N.plan (window.now.before + (at.slot + 1)) (fault_of fault) own.new.end) steps.old steps.new) }

@@ -1,7 +1,8 @@
 -- A faulty machine from strobe to strobe (strobes and slots by IEEE 1364-2001, clause 5).
 use Rattle.std.proofs.Common.{◌≡◌, ℕ, ◌<◌, ◌≤◌, List, [], ◌∷◌, ◌++◌, length, refl, sym, ap, subst, ◌∙◌, arith}
-use Rattle.std.specs.Prelude.{Option, Some, None, IsSome}
+use Rattle.std.specs.Prelude.{Option, Some, None, true, false}
 use Rattle.std.proofs.lemmas.List.{length-map}
+use Rattle.vf_base.specs.Base.{WatchedBit}
 use Rattle.vf_base.specs.Lists.{AllHold}
 use Rattle.vf_base.specs.declared.finding.End.{End}
 use Rattle.v_design.specs.Designs.{FlatDesign, Machine, StuckAt, TestPlan, faulty_machine}
@@ -9,7 +10,7 @@ use Rattle.v_design.specs.States.{State}
 use Rattle.v_design.specs.Grades.{Sample, Stop, Judged, Detected, FaultGrade, samples}
 use Rattle.v_design.specs.Plain.{grade_of}
 use Rattle.v_design.specs.WellFormed.{IsAscending}
-use Rattle.strobe_detect.specs.Graders.{GraderState, IsWatched, shown_at}
+use Rattle.strobe_detect.specs.Graders.{IsWatched}
 use Rattle.copy_laws.specs.Windows.{state_at}
 use Rattle.grade_laws.specs.Ahead.{StopsAfter}
 use Rattle.grade_laws.specs.Strobes.{ascending-later, all-since}
@@ -19,7 +20,8 @@ use Rattle.machine.specs.declared.parts.Machine.{Machine as Simulated}
 use Rattle.fault_grade.specs.Benches.{IsObjectOf}
 use Rattle.fault_grade.specs.Beside.{early, values-watched}
 use Rattle.beside_laws.specs.Stands.{IsAfter, IsSince, RunsGoOn, RunsStand}
-use Rattle.beside_laws.specs.Gradings.{GradingGoesOn, GradingsGoOn, EndsAt, GradingsEnd}
+use Rattle.fault_strobes.specs.Said.{Said, ends_there, said_at}
+use Rattle.fault_strobes.specs.Strobes.{EndsWith, StrobesGoOn, StrobedGradingsEnd, StrobedGradingsGoOn}
 use Rattle.window_grade.specs.Running.{IsRunningAt, StopsWith, CanRunTo, RunLeads}
 use Rattle.window_grade.specs.Grading.{IsGradingAt, CanPass, GradingLeads}
 
@@ -38,38 +40,41 @@ stops-earlier low time None h a = tt
 stops-earlier low time (Some stop) h a = omega (arith, h, a)
 
 -- a grading that ended by a time ended by a later one
-pub ends-later : (design : FlatDesign) (plan : TestPlan) (fault : StuckAt) (time later : ℕ) (found : FaultGrade) → time ≤ later → EndsAt design plan fault time found →
-    EndsAt design plan fault later found
-ends-later design plan fault time later found h e = record { grade_is = e.grade_is; ended = (let by = e.ended in omega (arith, h, by)) }
+pub ends-later : (design : FlatDesign) (plan : TestPlan) (fault : StuckAt) (time later : ℕ) (found : FaultGrade) (said : Said) → time ≤ later → EndsWith design plan fault time found said →
+    EndsWith design plan fault later found said
+ends-later design plan fault time later found said h e = record {
+  ends = record { grade_is = e.ends.grade_is; ended = (let by = e.ends.ended in omega (arith, h, by)) };
+  full = e.full;
+}
 
 since-all : (low time : ℕ) (strobes : List ℕ) → low ≤ time → AllHold (λ strobe. time ≤ strobe) strobes → AllHold (λ strobe. low ≤ strobe) strobes
 since-all low time [] h a = tt
 since-all low time (x ∷ strobes) h a = (let y : time ≤ x = a.0 in omega (arith, h, y), since-all low time strobes h a.1)
 
 -- the faulty machine stops by a time that isn't after the next strobes
-pub ends-stopped : GradingsEnd → (design : FlatDesign) (plan : TestPlan) (fault : StuckAt) (now : Option ℕ) (passed next : List ℕ) (grader : GraderState) (time : ℕ) (end : End) →
-    GradingGoesOn design plan fault now passed next grader → StopsWith design plan fault time end → AllHold (λ strobe. time ≤ strobe) next → StopsAfter time (good_stop design plan) →
-    EndsAt design plan fault time (grade_of end)
-ends-stopped law design plan fault now passed next grader time end g s since good =
+pub ends-stopped : StrobedGradingsEnd → (design : FlatDesign) (plan : TestPlan) (fault : StuckAt) (now : Option ℕ) (passed next : List ℕ) (said : Said) (time : ℕ) (end : End) →
+    StrobesGoOn design plan fault now passed next said → StopsWith design plan fault time end → AllHold (λ strobe. time ≤ strobe) next → StopsAfter time (good_stop design plan) →
+    EndsWith design plan fault time (grade_of end) said
+ends-stopped law design plan fault now passed next said time end g s since good =
     let by : s.stop.time ≤ time = s.by_then in
-    ends-later design plan fault s.stop.time time (grade_of end) by
-    (law.faulty design plan fault now passed next grader s.stop (grade_of end) g s.stop_is (since-all s.stop.time time next by since)
+    ends-later design plan fault s.stop.time time (grade_of end) said by
+    (law.faulty design plan fault now passed next said s.stop (grade_of end) g s.stop_is (since-all s.stop.time time next by since)
     (stops-earlier s.stop.time time (good_stop design plan) by good) s.ends)
 
 -- what is watched are objects of the machine
-pub watched-there : (design : FlatDesign) (plan : TestPlan) (fault : StuckAt) (now : Option ℕ) (m : Simulated) (grader : GraderState) → IsRunningAt design plan fault now m →
-    grader.watched ≡ plan.watched → AllHold (IsObjectOf design) plan.watched → AllHold (IsWatched (state_kept m).values) grader.watched
-watched-there design plan fault now m grader at is all =
-    values-watched m grader.watched at.standing.values
-    (subst (λ (machine : Machine). AllHold (IsObjectOf machine.design) grader.watched) (sym at.same_machine) (subst (AllHold (IsObjectOf design)) (sym is) all))
+pub watched-there : (design : FlatDesign) (plan : TestPlan) (fault : StuckAt) (now : Option ℕ) (m : Simulated) (watched : List WatchedBit) → IsRunningAt design plan fault now m →
+    plan.watched ≡ watched → AllHold (IsObjectOf design) plan.watched → AllHold (IsWatched (state_kept m).values) watched
+watched-there design plan fault now m watched at is all =
+    values-watched m watched at.standing.values
+    (subst (λ (machine : Machine). AllHold (IsObjectOf machine.design) watched) (sym at.same_machine) (subst (AllHold (IsObjectOf design)) is all))
 
 -- At a strobe
 
-module _ (sample : Sample) (m : Simulated) (grader : GraderState) (of : CanPass sample m grader) where
+module _ (watched : List WatchedBit) (sample : Sample) (m : Simulated) (said : Said) (of : CanPass watched sample m said) where
   abbrev rest : List ℕ
   rest = times of.next ++ of.later
 
-  pub grading-here : GradingGoesOn of.design of.plan of.fault of.now of.at.passed (sample.time ∷ rest) grader
+  pub grading-here : StrobesGoOn of.design of.plan of.fault of.now of.at.passed (sample.time ∷ rest) said
   grading-here = of.at.grading
 
   pub others-later : AllHold (λ strobe. sample.time < strobe) rest
@@ -91,40 +96,34 @@ module _ (sample : Sample) (m : Simulated) (grader : GraderState) (of : CanPass 
     early = early of.plan sample.time of.at.rules sample-within;
   }
 
-  pub sized : length sample.bits ≡ length grader.watched
-  sized = ap length of.at.bits.0 ∙ length-map of.plan.watched _ ∙ sym (ap length of.at.grading.watched)
+  pub sized : length sample.bits ≡ length watched
+  sized = ap length of.at.bits.0 ∙ length-map of.plan.watched _ ∙ ap length of.watched_are
 
-  pub pass-stopped : (end : End) → StopsWith of.design of.plan of.fault sample.time end → GradingsEnd → EndsAt of.design of.plan of.fault sample.time (grade_of end)
+  pub pass-stopped : (end : End) → StopsWith of.design of.plan of.fault sample.time end → StrobedGradingsEnd → EndsWith of.design of.plan of.fault sample.time (grade_of end) said
   pass-stopped end s law =
-      ends-stopped law of.design of.plan of.fault of.now of.at.passed (sample.time ∷ rest) grader sample.time end grading-here s
+      ends-stopped law of.design of.plan of.fault of.now of.at.passed (sample.time ∷ rest) said sample.time end grading-here s
       (omega arith, all-since sample.time sample.time rest (omega arith) others-later) of.at.before.0
 
   -- the machine went on to the strobe and is compared
-  module _ (runs : RunsGoOn) (stand : RunsStand) (new : Simulated) (running : IsRunningAt of.design of.plan of.fault (Some sample.time) new) (after : GraderState)
-      (is : after ≡ shown_at sample.time sample.bits (samples grader.watched (state_kept new).values) grader) where
+  module _ (runs : RunsGoOn) (stand : RunsStand) (new : Simulated) (running : IsRunningAt of.design of.plan of.fault (Some sample.time) new) (after : Said)
+      (is : after ≡ said_at sample.time sample.bits (samples watched (state_kept new).values) said) where
     here : (state_at (faulty_machine of.design of.fault) of.plan.end sample.time ≡ state_kept new) × StopsAfter sample.time (faulty_stop of.design of.plan of.fault)
     here = runs.stands (faulty_machine of.design of.fault) of.plan.end sample.time _ (state_kept new) running.run
 
-    seen : samples grader.watched (state_kept new).values ≡ faulty_seen of.design of.plan of.fault sample.time
+    seen : samples watched (state_kept new).values ≡ faulty_seen of.design of.plan of.fault sample.time
     seen =
-        ap (λ w. samples w (state_kept new).values) of.at.grading.watched
+        ap (λ w. samples w (state_kept new).values) (sym of.watched_are)
         ∙ ap (λ (s : State). samples of.plan.watched s.values) (sym here.0)
         ∙ sym (stand.sees (faulty_machine of.design of.fault) of.plan.watched of.plan.end sample.time of.at.design_rules)
 
-    pub pass-hard : GradingsEnd → IsSome after.hard → EndsAt of.design of.plan of.fault sample.time (Judged (Detected sample.time))
-    pass-hard law some = go after.hard refl some
-      where
-        go : (found : Option ℕ) → after.hard ≡ found → IsSome found → EndsAt of.design of.plan of.fault sample.time (Judged (Detected sample.time))
-        go None e h = cc
-        go (Some time) e h =
-            law.hard of.design of.plan of.fault of.now of.at.passed rest sample.time time grader after sample.bits (samples grader.watched (state_kept new).values) grading-here of.at.before.0 here.1
-            of.at.bits.0 seen is e
+    pub pass-hard : StrobedGradingsEnd → ends_there sample.bits (samples watched (state_kept new).values) said ≡ true →
+        EndsWith of.design of.plan of.fault sample.time (Judged (Detected sample.time)) after
+    pass-hard law ends =
+        law.hard of.design of.plan of.fault of.now of.at.passed rest sample.time said after sample.bits (samples watched (state_kept new).values) grading-here of.at.before.0 here.1
+        of.at.bits.0 seen ends is
 
-    no-hard : (found : Option ℕ) → (IsSome found → ⊥) → found ≡ None
-    no-hard None h = refl
-    no-hard (Some time) h = absurd (h refl)
-
-    pub pass-on : GradingsGoOn → (IsSome after.hard → ⊥) → IsGradingAt of.design of.plan of.fault (Some sample.time) new of.next of.later after
+    pub pass-on : StrobedGradingsGoOn → ends_there sample.bits (samples watched (state_kept new).values) said ≡ false →
+        IsGradingAt of.design of.plan of.fault (Some sample.time) new of.next of.later after
     pass-on law none = record {
       design_rules = of.at.design_rules;
       rules = of.at.rules;
@@ -132,18 +131,18 @@ module _ (sample : Sample) (m : Simulated) (grader : GraderState) (of : CanPass 
       passed = of.at.passed ++ sample.time ∷ [];
       at = running;
       grading =
-          law.strobe of.design of.plan of.fault of.now of.at.passed rest sample.time grader after sample.bits (samples grader.watched (state_kept new).values) of.at.rules grading-here of.at.before.0
-          here.1 of.at.bits.0 seen is (no-hard after.hard none);
+          law.strobe of.design of.plan of.fault of.now of.at.passed rest sample.time said after sample.bits (samples watched (state_kept new).values) of.at.rules grading-here of.at.before.0
+          here.1 of.at.bits.0 seen none is;
       bits = of.at.bits.1;
       before = of.at.before.1;
     }
 
 -- After the window's strobes
 
-module _ (runs : RunsGoOn) (law : GradingsGoOn) (ends : GradingsEnd) (design : FlatDesign) (plan : TestPlan) (fault : StuckAt) (now : Option ℕ) (m new : Simulated) (later : List ℕ)
-    (grader : GraderState) (until : ℕ) (at : IsGradingAt design plan fault now m [] later grader) (after : AllHold (λ strobe. until < strobe) later)
+module _ (runs : RunsGoOn) (law : StrobedGradingsGoOn) (ends : StrobedGradingsEnd) (design : FlatDesign) (plan : TestPlan) (fault : StuckAt) (now : Option ℕ) (m new : Simulated) (later : List ℕ)
+    (said : Said) (until : ℕ) (at : IsGradingAt design plan fault now m [] later said) (after : AllHold (λ strobe. until < strobe) later)
     (good : StopsAfter until (good_stop design plan)) where
-  pub window-leads : (end : Option End) → RunLeads design plan fault until end new → GradingLeads design plan fault until [] later end new grader
+  pub window-leads : (end : Option End) → RunLeads design plan fault until end new → GradingLeads design plan fault until [] later end new said
   window-leads None running = record {
     design_rules = at.design_rules;
     rules = at.rules;
@@ -151,10 +150,10 @@ module _ (runs : RunsGoOn) (law : GradingsGoOn) (ends : GradingsEnd) (design : F
     passed = at.passed;
     at = running;
     grading =
-        law.passes design plan fault now at.passed later grader until at.grading after good
+        law.passes design plan fault now at.passed later said until at.grading after good
         (runs.stands (faulty_machine design fault) plan.end until _ (state_kept new) running.run).1;
     bits = tt;
     before = tt;
   }
   window-leads (Some end) s =
-      ends-stopped ends design plan fault now at.passed later grader until end at.grading s (all-since until until later (omega arith) after) good
+      ends-stopped ends design plan fault now at.passed later said until end at.grading s (all-since until until later (omega arith) after) good

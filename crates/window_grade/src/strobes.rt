@@ -1,40 +1,49 @@
 // A faulty machine from strobe to strobe through a window.
 
-ghost use Rattle.std.specs.Prelude.{IfOk};
+ghost use Rattle.std.specs.Prelude.{◌≡◌, IfOk, OnOk, map};
+ghost use Rattle.vf_base.specs.Base.{watched_bit};
 ghost use Rattle.kept_samples.specs.Plain.{sample_of};
+ghost use Rattle.fault_strobes.specs.Said.{keeps};
+ghost use Rattle.fault_strobes.specs.Shown.{said_of};
 ghost use Rattle.window_grade.specs.Running.{StaysOn, TicksTo};
 ghost use Rattle.window_grade.specs.Grading.{CanPass, Passes, CanGrade, GradesThrough};
 
 use crate::run::run_to;
 use causal_monitor::SlotLog;
+use fault_strobes::{Strobed, strobed_gradings_end, strobed_gradings_go_on};
 use kept_samples::Sample;
 use machine::Machine;
+use std::alloc::Global;
 use std::sync::ledger::Ledger;
-use strobe_detect::Grader;
-use vf_base::{End, NoMemory, Steps};
+use vf_base::{End, NoMemory, Steps, WatchBit};
 
 /// Runs the faulty machine to a strobe and compares. The answer is the grading's end, where it comes here.
 fn pass_strobe<L: Ledger>(
+    alloc: Global,
     log: &mut SlotLog,
     machine: &mut Machine<'_>,
-    grader: &mut Grader<'_>,
+    watched: &[WatchBit],
+    strobed: &mut Strobed,
     sample: &Sample,
     steps: &mut Steps<L>,
 ) -> Result<Option<End>, NoMemory>
-    requires { CanPass (sample_of sample.now) machine.old grader.old }
-    ensures grading { IfOk result (λ end. (of : CanPass (sample_of sample.now) machine.old grader.old) → Passes (sample_of sample.now) machine.old grader.old of end machine.new grader.new) }
+    requires { CanPass (map watched_bit watched.now) (sample_of sample.now) machine.old (said_of strobed.old) }
+    ensures grading { IfOk result (λ end. (of : CanPass (map watched_bit watched.now) (sample_of sample.now) machine.old (said_of strobed.old)) →
+        Passes (map watched_bit watched.now) (sample_of sample.now) machine.old (said_of strobed.old) of end machine.new (said_of strobed.new)) }
     ensures stays { IfOk result (λ _. StaysOn machine.old machine.new) }
-    ensures ticks { IfOk result (λ end. (of : CanPass (sample_of sample.now) machine.old grader.old) → TicksTo of.design of.plan of.fault of.now sample.now.time end steps.old steps.new) }
+    ensures kind { OnOk result (keeps (said_of strobed.new) ≡ keeps (said_of strobed.old)) }
+    ensures ticks { IfOk result (λ end. (of : CanPass (map watched_bit watched.now) (sample_of sample.now) machine.old (said_of strobed.old)) → TicksTo of.design of.plan of.fault of.now sample.now.time end steps.old steps.new) }
 {
-    beside_laws::gradings_go_on();
-    beside_laws::gradings_end();
+    strobed_gradings_go_on();
+    strobed_gradings_end();
     beside_laws::runs_go_on();
     beside_laws::runs_stand();
     if let Some(end) = run_to(log, machine, sample.time, steps)? {
         return Ok(Some(end));
     }
-    let hard = grader.strobe_kept(sample.time, sample.bits.as_slice(), machine);
-    if hard {
+    let bits = sample.bits.as_slice();
+    let ends = strobed.strobe(alloc, watched, sample.time, bits, machine)?;
+    if ends {
         return Ok(Some(End::Detected(sample.time)));
     }
     Ok(None)
@@ -48,23 +57,27 @@ fn pass_strobe<L: Ledger>(
 ///
 /// Want of memory.
 pub fn grade_through<L: Ledger>(
+    alloc: Global,
     log: &mut SlotLog,
     machine: &mut Machine<'_>,
-    grader: &mut Grader<'_>,
+    watched: &[WatchBit],
+    strobed: &mut Strobed,
     samples: &[Sample],
     until: u64,
     steps: &mut Steps<L>,
 ) -> Result<Option<End>, NoMemory>
-    requires { CanGrade samples.now until machine.old grader.old }
-    ensures grading { IfOk result (λ end. (of : CanGrade samples.now until machine.old grader.old) → GradesThrough of.design of.plan of.fault of.later until end machine.new grader.new) }
+    requires { CanGrade (map watched_bit watched.now) samples.now until machine.old (said_of strobed.old) }
+    ensures grading { IfOk result (λ end. (of : CanGrade (map watched_bit watched.now) samples.now until machine.old (said_of strobed.old)) →
+        GradesThrough of.design of.plan of.fault of.later until end machine.new (said_of strobed.new)) }
     ensures stays { IfOk result (λ _. StaysOn machine.old machine.new) }
-    ensures ticks { IfOk result (λ end. (of : CanGrade samples.now until machine.old grader.old) → TicksTo of.design of.plan of.fault of.now until end steps.old steps.new) }
+    ensures kind { OnOk result (keeps (said_of strobed.new) ≡ keeps (said_of strobed.old)) }
+    ensures ticks { IfOk result (λ end. (of : CanGrade (map watched_bit watched.now) samples.now until machine.old (said_of strobed.old)) → TicksTo of.design of.plan of.fault of.now until end steps.old steps.new) }
 {
-    beside_laws::gradings_go_on();
-    beside_laws::gradings_end();
+    strobed_gradings_go_on();
+    strobed_gradings_end();
     beside_laws::runs_go_on();
     'strobes: for sample in samples {
-        if let Some(end) = pass_strobe(log, machine, grader, sample, steps)? {
+        if let Some(end) = pass_strobe(alloc, log, machine, watched, strobed, sample, steps)? {
             return Ok(Some(end));
         }
     }

@@ -5,3 +5,4 @@ pub mod Joining
 pub mod Standing
 pub mod Through
 pub mod Fronts
+pub mod Dues

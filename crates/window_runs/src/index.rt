@@ -11,16 +11,20 @@ ghost use Rattle.window_runs.specs.RunsByProcess.{run_process, run_phase, runs_o
 ghost use Rattle.window_runs.specs.Standing.{last_run};
 ghost use Rattle.window_runs.specs.Through.{runs_through};
 
+use crate::latest::list_latest;
 use process_code::RunEnd;
 use std::alloc::Global;
 use vf_base::{NoMemory, ProcId};
 use window_index::{Occurrence, WindowIndex};
 
-/// Of each process the phases of its runs, and their places among all runs, both in ascending order.
+/// Of each process the phases of its runs, and their places among all runs, both in ascending order; and of each run the latest time, in steps, at which an update is due that its
+/// process appended up to it, with room for such a time of each process.
 #[derive(Drop)]
 pub struct RunIndex {
     pub phases: WindowIndex,
     pub places: WindowIndex,
+    pub latest: Vec<u64>,
+    pub highest: Vec<u64>,
 }
 
 /// Lists each run as an occurrence of its process at its phase, in place of the occurrences that were listed.
@@ -69,7 +73,12 @@ impl RunIndex {
     {
         let phases = WindowIndex::new(alloc, processes)?;
         let places = WindowIndex::new(alloc, processes)?;
-        Ok(RunIndex { phases, places })
+        Ok(RunIndex {
+            phases,
+            places,
+            latest: Vec::new(alloc),
+            highest: Vec::new(alloc),
+        })
     }
 
     /// Makes the index that of other runs of the same processes, which come in ascending order of their phases. It uses the memory that it has and that of `occurrences`,
@@ -93,6 +102,7 @@ impl RunIndex {
         self.phases.refill(occurrences)?;
         put_at_places(occurrences);
         self.places.refill(occurrences)?;
+        list_latest(runs, &mut self.highest, &mut self.latest)?;
         Ok(())
     }
 

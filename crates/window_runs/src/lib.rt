@@ -9,6 +9,7 @@
 #![tactic(auto)]
 
 mod index;
+mod latest;
 mod laws;
 mod numbers;
 mod parts;

@@ -1,6 +1,6 @@
 // The nonblocking updates that processes have pending after a window's runs.
 
-ghost use Rattle.std.specs.Prelude.{◌≡◌, ◌<◌, ◌^◌, ◌++◌, [], ◌∷◌, length, map, IfOk, OnOk};
+ghost use Rattle.std.specs.Prelude.{◌≡◌, ℕ, ◌-◌, ◌<◌, ◌≤◌, ◌^◌, ◌++◌, [], ◌∷◌, get_or, length, map, IfOk, OnOk};
 ghost use Rattle.std.specs.Option.{option_map, option_to_list};
 ghost use Rattle.vf_base.specs.Base.{process_number};
 ghost use Rattle.v_design.specs.Plain.{due_of};
@@ -49,6 +49,23 @@ fn push_run(updates: &mut Vec<Due>, run: Option<&RunEnd>, time: u64) -> Result<(
 }
 
 impl RunIndex {
+    /// How many of the first so many runs of a process, up to the last one behind which nothing is known to be due after a time, append no update that is.
+    fn count_early(&self, process: ProcId, count: usize, time: u64) -> usize
+        requires process { process_number process < length self.now.places }
+        requires count { count ≤ length (get_or self.now.places (process_number process) []) }
+        requires runs { (place : ℕ) → place < count → get_or (get_or self.now.places (process_number process) []) place 0 < length self.now.latest.items }
+        ensures within { result ≤ count }
+        ensures early { 0 < result → get_or self.now.latest.items (get_or (get_or self.now.places (process_number process) []) (result - 1) 0) 0 ≤ time }
+    {
+        let places = self.places.moments(process.0);
+        'places: for place in (0..count).rev() {
+            if self.latest[places[place] as usize] <= time {
+                return place + 1;
+            }
+        }
+        0
+    }
+
     /// Puts those of the updates that the runs of a process in the phases up to one append, and that are due after a time, behind others.
     fn push_appended(
         &self,
@@ -63,7 +80,9 @@ impl RunIndex {
         ensures { OnOk result (map due_of updates.new.items ≡ map due_of updates.old.items
             ++ due_after time (appended_through (process_number process) phase runs.now)) }
     {
-        'places: for place in 0..self.count_through(process, phase) {
+        let count = self.count_through(process, phase);
+        let early = self.count_early(process, count, time);
+        'places: for place in early..count {
             push_run(updates, self.run_at(runs, process, place), time)?;
         }
         Ok(())

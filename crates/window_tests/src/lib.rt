@@ -11,8 +11,10 @@ ghost use Rattle.window_tests.specs.Stretches.{StretchesAreTold, PairsAreTold};
 mod spans;
 mod tests;
 
+pub use lockstep_slots::slots_in_lockstep;
 pub use spans::{NoSpans, Spans};
 pub use tests::{is_read, is_touched, is_written};
+pub use window_places::places_in_windows;
 
 /// What no moment of a stretch passes tells what its events don't do to an object; and one that reads it tells of a read.
 pub fn stretches_are_told()

@@ -11,9 +11,10 @@ pub returns : goal.returns
 returns c =
     let laws : ShardLaws = record {
       copies = c.copies_go_in_lockstep.ensures;
-      grading = c.gradings_go_on.ensures;
-      ends = c.gradings_end.ensures;
-      faults = c.faults_go_on.ensures;
+      grading = c.strobed_gradings_go_on.ensures;
+      ends = c.strobed_gradings_end.ensures;
+      faults = c.strobed_faults_go_on.ensures;
+      stay = c.faults_go_on.ensures;
       good = c.good_run_goes_on.ensures;
       goes = c.runs_go_on.ensures;
       runs = c.runs_stand.ensures;
@@ -28,12 +29,12 @@ returns c =
       enters = λ design plan fault number time passed own rules stands none due. enters laws design plan fault number time passed own rules stands none due;
       grading = λ design plan fault number time passed own rules stands. grading laws design plan fault number time passed own rules stands;
       strobes = λ design plan fault number time d strobe lockstep low before good_on. stands-at laws design plan fault number time d strobe lockstep low before good_on;
-      sees = λ design plan fault now passed next d strobe grader new good faulty rules of_plan goes stands seen is none.
-          sees laws design plan rules fault d strobe stands good faulty seen now passed next grader new of_plan goes is none;
-      finds = λ design plan fault now passed next d strobe found grader new good faulty rules goes stands seen is hard.
-          finds laws design plan rules fault d strobe stands good faulty seen now passed next found grader new goes is hard;
-      unseen = λ design plan fault now passed strobes later d grader rules of_plan none all goes.
-          unseen laws design plan rules of_plan fault d grader none strobes now passed later all goes;
+      sees = λ design plan fault now passed next d strobe said new good faulty rules of_plan goes stands seen none is.
+          sees laws design plan rules fault d strobe stands good faulty seen now passed next said new of_plan goes none is;
+      finds = λ design plan fault now passed next d strobe said new good faulty rules goes stands seen hard is.
+          finds laws design plan rules fault d strobe stands good faulty seen now passed next said new goes hard is;
+      unseen = λ design plan fault now passed strobes later d said rules of_plan none all goes.
+          unseen laws design plan rules of_plan fault d said none strobes now passed later all goes;
       leaves = λ design plan fault number time count now own lockstep listed none more time_is has goes own_time.
           leaves laws design plan fault number time count now own lockstep listed none more time_is has goes own_time;
       found = λ design plan fault number time count ended end own rules ends low listed is within more time_is.

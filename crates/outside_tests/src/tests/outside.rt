@@ -5,8 +5,8 @@ use std::alloc::Global;
 use std::process::Abort;
 use std::test::Fail;
 use std::thread::Threads;
+use top_call::{Status, code};
 use vf_base::OpenGate;
-use vf_status::{Status, code};
 
 /// The output over the block.
 const REPORT: &[u8] =

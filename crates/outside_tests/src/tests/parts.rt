@@ -3,12 +3,12 @@
 ghost use Rattle.std.specs.Prelude.{◌≡◌};
 
 use copy_state::FaultCopy;
-use elaborate::read_design;
 use expr_sizes::size_expr;
 use four_value::Vec4;
 use net_graph::Graph;
 use soak_text::{design_text, plan_text};
 use std::test::Fail;
+use top_call::read_design;
 use v_copy::copy_tree;
 use v_elab::Mode;
 use v_names::Scope;

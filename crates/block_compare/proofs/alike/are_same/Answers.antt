@@ -1,6 +1,6 @@
 -- Neither is one, or both are the same.
 use Rattle.std.proofs.Common.{sym, ap, ◌∙◌}
-use Rattle.lockstep_room.specs.Rooms.{lane_numbers}
+use Rattle.moment_shown.specs.lockstep_exchange.Putting.{lane_numbers}
 use Rattle.block_compare.proofs.Same.{no-lane}
 use Rattle.block_compare.proofs.alike.are_same.Goals as goal
 

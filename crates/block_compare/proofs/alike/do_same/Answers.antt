@@ -2,7 +2,7 @@
 use Rattle.std.proofs.Common.{◌∙◌}
 use Rattle.vf_base.specs.Base.{process_number}
 use Rattle.vf_base.specs.declared.ids.ProcId.{ProcId}
-use Rattle.block_events.specs.Runners.{state_of}
+use Rattle.runner_writes.specs.block_events.Runners.{state_of}
 use Rattle.block_compare.specs.Comparing.{DoesSame}
 use Rattle.block_compare.proofs.Same.{all-taken, one-more, one-there}
 use Rattle.block_compare.proofs.alike.do_same.Goals as goal

@@ -3,7 +3,7 @@ use Rattle.std.proofs.Common.{◌≡◌, ℕ, true, map, take}
 use Rattle.vf_base.specs.Base.{process_number}
 use Rattle.vf_base.specs.Lists.{has}
 use Rattle.v_design.specs.States.{State}
-use Rattle.block_events.specs.Runners.{state_of}
+use Rattle.runner_writes.specs.block_events.Runners.{state_of}
 use Rattle.moment_shown.specs.Shown.{Shows}
 use Rattle.block_compare.specs.Comparing.{DoesSame}
 use Rattle.block_compare.proofs.alike.do_same.Given as goal

@@ -1,8 +1,8 @@
 -- The runner stands at the point that is shown.
 use Rattle.std.proofs.Common.{arith}
 use Rattle.vf_base.specs.Base.{process_number}
-use Rattle.block_events.proofs.Nodes.{process-count}
-use Rattle.block_events.specs.Runners.{machine_of, state_of}
+use Rattle.runner_writes.proofs.block_events.Nodes.{process-count}
+use Rattle.runner_writes.specs.block_events.Runners.{machine_of, state_of}
 use Rattle.block_compare.proofs.Same.{same-there, states-there}
 use Rattle.block_compare.proofs.alike.does_same.Goals as goal
 

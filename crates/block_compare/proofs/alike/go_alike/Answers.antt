@@ -1,5 +1,5 @@
 -- All is alike.
-use Rattle.block_events.specs.Runners.{machine_of, state_of}
+use Rattle.runner_writes.specs.block_events.Runners.{machine_of, state_of}
 use Rattle.block_compare.proofs.Same.{go-so}
 use Rattle.block_compare.proofs.alike.go_alike.Goals as goal
 

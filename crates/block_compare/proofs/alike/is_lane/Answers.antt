@@ -1,7 +1,7 @@
 -- It is the one.
 use Rattle.std.proofs.Common.{[], ◌∷◌, ap, ◌∙◌}
 use Rattle.std.proofs.lemmas.Bool.{eqb-true}
-use Rattle.lockstep_room.specs.Rooms.{lane_numbers}
+use Rattle.moment_shown.specs.lockstep_exchange.Putting.{lane_numbers}
 use Rattle.block_compare.proofs.alike.is_lane.Goals as goal
 
 pub returns : goal.returns

@@ -1,6 +1,6 @@
 -- There is none, or the one does.
 use Rattle.std.proofs.Common.{subst}
-use Rattle.block_events.specs.Runners.{state_of}
+use Rattle.runner_writes.specs.block_events.Runners.{state_of}
 use Rattle.block_compare.specs.Comparing.{DoesSame}
 use Rattle.block_compare.proofs.Same.{lane-none, lane-only, lane-there}
 use Rattle.block_compare.proofs.alike.lane_does_same.Goals as goal

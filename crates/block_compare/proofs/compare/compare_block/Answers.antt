@@ -5,9 +5,9 @@ use Rattle.std.proofs.lemmas.List.{length-map}
 use Rattle.vf_base.specs.Base.{object_number, process_number}
 use Rattle.vf_base.specs.Lists.{has}
 use Rattle.vf_base.specs.declared.ids.ObjectId.{ObjectId}
-use Rattle.block_events.proofs.Nodes.{object-count, process-count}
-use Rattle.block_events.specs.Runners.{machine_of, state_of}
-use Rattle.lockstep_compare.specs.Compared.{writes_in}
+use Rattle.runner_writes.proofs.block_events.Nodes.{object-count, process-count}
+use Rattle.runner_writes.specs.block_events.Runners.{machine_of, state_of}
+use Rattle.moment_shown.specs.lockstep_compare.Compared.{writes_in}
 use Rattle.lockstep_index.specs.Writes.{OwnWrites}
 use Rattle.block_compare.proofs.Same.{all-comparable, all-so, writes-there}
 use Rattle.block_compare.proofs.Kept.{compared}

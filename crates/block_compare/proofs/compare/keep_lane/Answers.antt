@@ -4,8 +4,8 @@ use Rattle.std.specs.Prelude.{IfOk, Option}
 use Rattle.vf_base.specs.Base.{process_number}
 use Rattle.vf_base.specs.Lists.{has}
 use Rattle.vf_base.specs.declared.ids.ProcId.{ProcId}
-use Rattle.lockstep_compare.specs.Among.{AreWritesKeptAmong}
-use Rattle.lockstep_room.specs.Rooms.{lane_numbers}
+use Rattle.moment_shown.specs.lockstep_compare.Among.{AreWritesKeptAmong}
+use Rattle.moment_shown.specs.lockstep_exchange.Putting.{lane_numbers}
 use Rattle.block_compare.proofs.Same.{all-so}
 use Rattle.block_compare.proofs.Kept.{none-kept}
 use Rattle.block_compare.proofs.compare.keep_lane.Goals as goal

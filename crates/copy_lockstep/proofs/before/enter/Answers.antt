@@ -1,8 +1,8 @@
 -- Over slots, or to the slot.
 use Rattle.std.proofs.Common.{◌≡◌, ◌+◌, ◌∙◌, sym, subst, arith}
 use Rattle.v_design.specs.Plain.{fault_of}
-use Rattle.window_strobes.proofs.Knowing.{design-rules}
-use Rattle.copy_window.specs.declared.fault.ShardFault.{ShardFault}
+use Rattle.lockstep_due.proofs.window_strobes.Knowing.{design-rules}
+use Rattle.lockstep_due.specs.copy_window.declared.fault.ShardFault.{ShardFault}
 use Rattle.copy_lockstep.specs.Entered.{HasEntered}
 use Rattle.copy_lockstep.specs.Faults.{IsOpenAtSlot}
 use Rattle.copy_lockstep.proofs.Slots.{opens}
@@ -40,4 +40,7 @@ returns-clause-entered g c =
     (c.pass_slots-passed.ensures.stays same) (c.in_ok-entered.ensures.entered c.args.last c.if-at-last.false)
 
 pub returns-clause-place : goal.returns-clause-place
-returns-clause-place g c = c.in_ok-entered.ensures.place ∙ c.pass_slots-passed.ensures.place
+returns-clause-place g c = record {
+  number = c.in_ok-entered.ensures.place.number ∙ c.pass_slots-passed.ensures.place.number;
+  kind = c.in_ok-entered.ensures.place.kind ∙ c.pass_slots-passed.ensures.place.kind;
+}

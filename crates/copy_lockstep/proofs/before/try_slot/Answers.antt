@@ -1,10 +1,12 @@
 -- It may be tried, its strobes before the slot are seen, and it enters the slot.
-use Rattle.std.proofs.Common.{refl, suc, ◌+◌, ◌<◌, length, subst, arith}
+use Rattle.std.proofs.Common.{◌≡◌, Bool, true, false, refl, suc, ◌+◌, ◌<◌, length, subst, arith}
 use Rattle.std.specs.Prelude.{Some}
 use Rattle.vf_base.specs.declared.finding.End.TheVariants.{Detected}
 use Rattle.v_design.specs.Plain.{fault_of}
 use Rattle.copy_laws.specs.Windows.{good_slots}
-use Rattle.window_strobes.proofs.Knowing.{design-rules}
+use Rattle.fault_strobes.specs.Said.{Judging}
+use Rattle.lockstep_due.specs.copy_window.ShardFaults.{kept_by}
+use Rattle.lockstep_due.proofs.window_strobes.Knowing.{design-rules}
 use Rattle.slot_strobes.specs.Strobes.{IsSeenTo}
 use Rattle.copy_lockstep.proofs.Slots.{at-next, begins-at, enters-slot, found-before, has-ended, may-begin, may-try}
 use Rattle.copy_lockstep.proofs.Within.{processes-there}
@@ -39,8 +41,13 @@ returns-in-Some-clause-entered g c = λ last early.
     (c.in_ok-may.ensures.due c.if-not-may.false) in
     has-ended design plan (suc gone) c.see_before-seen.result.passed (record c.args.own.now { end = Some (Detected c.in-Some.time) })
     (found-before c.shards_go_in_lockstep.ensures c.good_run_goes_on.ensures design plan rules (fault_of c.args.fault) gone more c.slot_time-begins.result is c.args.at.passed c.args.own.now try
-    c.see_before-seen.result.passed c.in-Some.time c.see_before-seen.ensures.passed
-    (subst (IsSeenTo design plan (fault_of c.args.fault) c.args.at.passed c.see_before-seen.result.passed c.see_before-seen.result.possible) c.in-Some.is c.see_before-seen.ensures.seen)) refl
+    c.see_before-seen.result.passed c.in-Some.time c.see_before-seen.ensures.passed c.see_before-seen.result.possible (judged (kept_by c.args.own.now) refl)
+    (subst (IsSeenTo design plan (fault_of c.args.fault) c.args.at.passed c.see_before-seen.result.passed (Judging c.see_before-seen.result.possible)) c.in-Some.is
+    (c.see_before-seen.ensures.seen (judged (kept_by c.args.own.now) refl)))) refl
+  where
+    judged : (k : Bool) → kept_by c.args.own.now ≡ k → kept_by c.args.own.now ≡ false
+    judged false e = e
+    judged true e = (let none = c.see_before-seen.ensures.none e in let some = c.in-Some.is in cc)
 
 pub enter_slot-requires-clause-copy : goal.enter_slot-requires-clause-copy
 enter_slot-requires-clause-copy g c κs within =
@@ -74,7 +81,9 @@ returns-in-Some-found-clause-entered g c = λ last early.
       stays = refl;
       enters = enters-slot design plan (fault_of c.args.fault) gone c.args.at.passed c.args.own.now try c.slot_time-begins.result is c.see_before-seen.result.passed c.see_before-seen.result.possible
           c.see_before-seen.ensures.passed
-          (subst (IsSeenTo design plan (fault_of c.args.fault) c.args.at.passed c.see_before-seen.result.passed c.see_before-seen.result.possible) c.in_default.is c.see_before-seen.ensures.seen);
+          (λ judged.
+          subst (IsSeenTo design plan (fault_of c.args.fault) c.args.at.passed c.see_before-seen.result.passed (Judging c.see_before-seen.result.possible)) c.in_default.is
+          (c.see_before-seen.ensures.seen judged));
       begins = c.in_ok-found.ensures.begins c.in-Some-found.one c.in-Some-found.is;
       place = (c.in_ok-found.ensures.rest c.in-Some-found.one c.in-Some-found.is).0;
       states = (c.in_ok-found.ensures.rest c.in-Some-found.one c.in-Some-found.is).1;

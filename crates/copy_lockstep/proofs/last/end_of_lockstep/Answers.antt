@@ -2,8 +2,8 @@
 use Rattle.std.proofs.Common.{◌<◌, length, sym, ap, subst, ◌∙◌, arith}
 use Rattle.copy_laws.specs.Windows.{IsWindow, good_slots}
 use Rattle.good_trace.specs.Slots.{end_of}
-use Rattle.window_strobes.proofs.Knowing.{design-rules}
-use Rattle.window_strobes.specs.Neighbours.{slots-within}
+use Rattle.lockstep_due.proofs.window_strobes.Knowing.{design-rules}
+use Rattle.lockstep_due.specs.window_strobes.Neighbours.{slots-within}
 use Rattle.copy_lockstep.proofs.last.end_of_lockstep.Goals as goal
 
 pub returns-in-Open-clause-within : goal.returns-in-Open-clause-within

@@ -11,8 +11,8 @@ use Rattle.copy_laws.specs.Differences.{own_of}
 use Rattle.copy_laws.specs.Windows.{good_slots}
 use Rattle.copy_state.specs.Kept.{differences_of}
 use Rattle.quiet_index.specs.PassOver.{SlotsLeaveAlone}
-use Rattle.copy_pass.proofs.Left.{site-there}
-use Rattle.window_strobes.proofs.Knowing.{design-rules, plan-rules}
+use Rattle.slot_strobes.proofs.copy_pass.Left.{site-there}
+use Rattle.lockstep_due.proofs.window_strobes.Knowing.{design-rules, plan-rules}
 use Rattle.copy_lockstep.proofs.Passing.{fewer-left, passes-over}
 use Rattle.copy_lockstep.proofs.Within.{objects-there}
 use Rattle.copy_lockstep.proofs.pass.pass_slots.Goals as goal

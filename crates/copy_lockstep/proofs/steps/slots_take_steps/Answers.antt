@@ -5,6 +5,7 @@ use Rattle.copy_lockstep.proofs.steps.slots_take_steps.Goals as goal
 pub returns : goal.returns
 returns c = slots-take (record {
   copies = c.copies_go_in_lockstep.ensures;
+  shards = c.shards_go_in_lockstep.ensures;
   steps = c.slot_steps_go_on.ensures;
   takes = c.runs_take_steps.ensures;
   gradings = c.gradings_take_steps.ensures;

@@ -1,38 +1,34 @@
 -- The faulty machine makes the good machine's slots.
 use Rattle.std.proofs.Common.{◌≡◌, ℕ, ◌+◌, ◌-◌, ◌<◌, ◌≤◌, List, map, sym, ap, subst, ◌∙◌, arith}
-use Rattle.std.specs.Prelude.{None, Option, Some, slice_get}
+use Rattle.std.specs.Prelude.{None, Some, slice_get}
 use Rattle.vf_base.specs.Base.{WatchedBit, watched_bit}
 use Rattle.vf_base.specs.Lists.{AllHold}
 use Rattle.vf_base.specs.declared.ids.WatchBit.{WatchBit}
 use Rattle.v_design.specs.Designs.{TestPlan}
 use Rattle.v_design.specs.Plain.{fault_of}
-use Rattle.strobe_detect.specs.Graders.{GraderState}
 use Rattle.copy_laws.specs.Differences.{own_of}
 use Rattle.copy_laws.specs.Windows.{good_slots}
 use Rattle.good_trace.specs.Slots.{end_of}
-use Rattle.window_strobes.specs.Leading.{EndsSo}
-use Rattle.copy_window.specs.Passing.{EndsBehind}
-use Rattle.window_strobes.specs.Neighbours.{between}
+use Rattle.copy_window.specs.window_strobes.Leading.{EndsSo}
+use Rattle.copy_window.specs.window_strobes.Neighbours.{between}
 use Rattle.copy_pass.proofs.Left.{fewer-alone, site-there, values-there}
 use Rattle.copy_pass.proofs.Passed.{PassLaws, copy-now, goes-on, passes, passes-slots}
 use Rattle.copy_pass.proofs.Rules.{design-rules, plan-rules}
 use Rattle.copy_pass.proofs.Slots.{fine-few, fine-next, more-slots}
 use Rattle.copy_pass.proofs.pass.pass_over.Goals as goal
 
-abbrev grader-of : Option ℕ → List WatchedBit → GraderState
-grader-of possible watched = record { watched = watched; hard = None; possible = possible }
-
 pub slots_alone-alone-requires-clause-objects : goal.slots_alone-alone-requires-clause-objects
 slots_alone-alone-requires-clause-objects g c κs within =
     let laws : PassLaws = record {
-      grading = c.gradings_go_on.ensures;
-      faults = c.faults_go_on.ensures;
+      grading = c.strobed_gradings_go_on.ensures;
+      faults = c.strobed_faults_go_on.ensures;
+      stay = c.faults_go_on.ensures;
       good = c.good_run_goes_on.ensures;
       over = c.copies_pass_over.ensures;
       see = c.strobes_see.ensures;
       stand = c.states_stand.ensures;
       times = c.updates_pend.ensures.time;
-      ends = c.gradings_end.ensures;
+      ends = c.strobed_gradings_end.ensures;
       runs = c.runs_stand.ensures;
     } in
     let design = g.N.World.design in
@@ -52,14 +48,15 @@ slots_alone-alone-requires-clause-site g c κs within =
 pub returns-then-alone-fine_slots-clause-part : goal.returns-then-alone-fine_slots-clause-part
 returns-then-alone-fine_slots-clause-part g c = λ some further passed low has.
     let laws : PassLaws = record {
-      grading = c.gradings_go_on.ensures;
-      faults = c.faults_go_on.ensures;
+      grading = c.strobed_gradings_go_on.ensures;
+      faults = c.strobed_faults_go_on.ensures;
+      stay = c.faults_go_on.ensures;
       good = c.good_run_goes_on.ensures;
       over = c.copies_pass_over.ensures;
       see = c.strobes_see.ensures;
       stand = c.states_stand.ensures;
       times = c.updates_pend.ensures.time;
-      ends = c.gradings_end.ensures;
+      ends = c.strobed_gradings_end.ensures;
       runs = c.runs_stand.ensures;
     } in
     let design = g.N.World.design in
@@ -86,14 +83,15 @@ returns-then-alone-fine_slots-clause-all g c = λ all.
 pub returns-clause-all : goal.returns-clause-all
 returns-clause-all g c = λ all.
     let laws : PassLaws = record {
-      grading = c.gradings_go_on.ensures;
-      faults = c.faults_go_on.ensures;
+      grading = c.strobed_gradings_go_on.ensures;
+      faults = c.strobed_faults_go_on.ensures;
+      stay = c.faults_go_on.ensures;
       good = c.good_run_goes_on.ensures;
       over = c.copies_pass_over.ensures;
       see = c.strobes_see.ensures;
       stand = c.states_stand.ensures;
       times = c.updates_pend.ensures.time;
-      ends = c.gradings_end.ensures;
+      ends = c.strobed_gradings_end.ensures;
       runs = c.runs_stand.ensures;
     } in
     let design = g.N.World.design in
@@ -115,7 +113,4 @@ returns-clause-all g c = λ all.
     (c.is_unseen.ensures c.if-not-is_unseen.false)))
     c.if-own-now.false (end_of c.args.strobes.now.ending) c.end_behind-own.result
     (subst (EndsSo design plan window.through (end_of c.args.strobes.now.ending)) c.in-Some.is c.requires.fault.are.leads.ends)
-    (subst (λ (grader : GraderState). EndsBehind (end_of c.args.strobes.now.ending) grader c.end_behind-own.result)
-    (c.again.ensures
-    ∙ ap (λ (watched : List WatchBit). grader-of c.args.own.now.possible (map watched_bit watched)) c.as_slice-watched.ensures
-    ∙ ap (λ (p : TestPlan). grader-of c.args.own.now.possible p.watched) (sym c.plan-plan.ensures.world)) c.end_behind-own.ensures)
+    c.end_behind-own.ensures

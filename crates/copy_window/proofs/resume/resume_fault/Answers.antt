@@ -1,11 +1,7 @@
 -- From the copy on.
-use Rattle.std.proofs.Common.{List, ◌+◌, length, map, sym, ap, subst, ◌∙◌, ◌<◌, arith}
-use Rattle.std.specs.Prelude.{Option, None}
-use Rattle.vf_base.specs.Base.{WatchedBit, watched_bit}
-use Rattle.v_design.specs.Designs.{Machine, TestPlan}
+use Rattle.std.proofs.Common.{◌+◌, length, subst, ◌<◌, arith}
 use Rattle.v_design.specs.Plain.{fault_of}
 use Rattle.run_ends.specs.RunEnds.{AreCodesOf}
-use Rattle.strobe_detect.specs.Graders.{GraderState}
 use Rattle.copy_window.proofs.Entering.{goes-again, is-room, settled-ticks}
 use Rattle.copy_window.proofs.Rules.{has-rules}
 use Rattle.copy_window.proofs.Starting.{can-enter, more-slots}
@@ -26,16 +22,14 @@ pub settle-requires-clause-fault : goal.settle-requires-clause-fault
 settle-requires-clause-fault g c κs within =
     let at = c.args.window.now.before + c.args.slot in
     let more = more-slots g.N.World.design g.N.World.plan c.args.window.now.before c.args.window.now.through c.args.window.now.ending c.begins-first.ensures.window at
-    (omega (arith, c.requires.slot, c.requires.end)) in
-    let State : List WatchedBit → GraderState = λ watched. record { watched = watched; hard = None; possible = c.args.own.now.possible } in (
+    (omega (arith, c.requires.slot, c.requires.end)) in (
       at,
-      goes-again c.machines_stand.ensures c.gradings_go_on.ensures c.faults_go_on.ensures g.N.World.design g.N.World.plan at (c.args.window.now.before + c.args.end) c.args.strobes.now
-          (fault_of c.args.fault) c.args.own.now c.enter.new.room c.again-grader.result c.requires.fault more
+      goes-again c.machines_stand.ensures c.strobed_gradings_go_on.ensures c.faults_go_on.ensures g.N.World.design g.N.World.plan at (c.args.window.now.before + c.args.end) c.args.strobes.now
+          (fault_of c.args.fault) c.args.own.now c.enter.new.room c.requires.fault more
           (has-rules g.N.World.design g.N.World.plan c.design-design.result.now c.plan-plan.result.now c.design-design.ensures.world c.plan-plan.ensures.world c.plan-plan.ensures.fits)
           (c.in_ok-enter.ensures
           (can-enter g.N.World.design g.N.World.plan (fault_of c.args.fault) at (c.args.window.now.before + c.args.end) c.args.strobes.now c.args.own.now c.requires.fault more c.args.setup.now.codes
-          (subst (AreCodesOf g.N.World.design) c.codes-codes.ensures.codes c.codes-codes.ensures.world)))
-          (c.again-grader.ensures ∙ ap (λ (watched : List _). State (map watched_bit watched)) c.as_slice.ensures ∙ ap (λ (p : TestPlan). State p.watched) (sym c.plan-plan.ensures.world)),
+          (subst (AreCodesOf g.N.World.design) c.codes-codes.ensures.codes c.codes-codes.ensures.world))),
     )
 
 pub returns-clause-room : goal.returns-clause-room
@@ -54,13 +48,11 @@ returns-clause-ticks g c =
     let at = c.args.window.now.before + c.args.slot in
     let more = more-slots g.N.World.design g.N.World.plan c.args.window.now.before c.args.window.now.through c.args.window.now.ending c.begins-first.ensures.window at
     (omega (arith, c.requires.slot, c.requires.end)) in
-    let State : List WatchedBit → GraderState = λ watched. record { watched = watched; hard = None; possible = c.args.own.now.possible } in
-    let of = goes-again c.machines_stand.ensures c.gradings_go_on.ensures c.faults_go_on.ensures g.N.World.design g.N.World.plan at (c.args.window.now.before + c.args.end) c.args.strobes.now
-    (fault_of c.args.fault) c.args.own.now c.enter.new.room c.again-grader.result c.requires.fault more
+    let of = goes-again c.machines_stand.ensures c.strobed_gradings_go_on.ensures c.faults_go_on.ensures g.N.World.design g.N.World.plan at (c.args.window.now.before + c.args.end) c.args.strobes.now
+    (fault_of c.args.fault) c.args.own.now c.enter.new.room c.requires.fault more
     (has-rules g.N.World.design g.N.World.plan c.design-design.result.now c.plan-plan.result.now c.design-design.ensures.world c.plan-plan.ensures.world c.plan-plan.ensures.fits)
     (c.in_ok-enter.ensures
     (can-enter g.N.World.design g.N.World.plan (fault_of c.args.fault) at (c.args.window.now.before + c.args.end) c.args.strobes.now c.args.own.now c.requires.fault more c.args.setup.now.codes
-    (subst (AreCodesOf g.N.World.design) c.codes-codes.ensures.codes c.codes-codes.ensures.world)))
-    (c.again-grader.ensures ∙ ap (λ (watched : List _). State (map watched_bit watched)) c.as_slice.ensures ∙ ap (λ (p : TestPlan). State p.watched) (sym c.plan-plan.ensures.world)) in
-    settled-ticks g.N.World.design g.N.World.plan at (c.args.window.now.before + c.args.end) c.args.strobes.now c.enter.new.room c.again-grader.result c.args.own.now (fault_of c.args.fault)
+    (subst (AreCodesOf g.N.World.design) c.codes-codes.ensures.codes c.codes-codes.ensures.world))) in
+    settled-ticks g.N.World.design g.N.World.plan at (c.args.window.now.before + c.args.end) c.args.strobes.now c.enter.new.room c.args.own.now (fault_of c.args.fault)
     c.settle.new.own.end c.args.steps.now c.settle.new.steps of c.requires.fault.listed (c.in_ok-settle.ensures.ticks at of)

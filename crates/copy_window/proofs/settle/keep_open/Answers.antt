@@ -3,7 +3,7 @@ use Rattle.std.proofs.Common.{◌+◌, refl, sym, ap, subst}
 use Rattle.v_design.specs.Designs.{Machine}
 use Rattle.between_slots.specs.Between.{state_through}
 use Rattle.copy_between.specs.Beside.{IsCopyOf}
-use Rattle.machine.specs.Standing.{state_kept}
+use Rattle.copy_room.specs.machine.Standing.{state_kept}
 use Rattle.window_strobes.specs.Strobes.{passed_behind}
 use Rattle.copy_window.proofs.Keeping.{keeps-open}
 use Rattle.copy_window.proofs.settle.keep_open.Goals as goal
@@ -25,8 +25,8 @@ leave-requires-clause-design g c κs within = ap (λ (m : Machine). m.design) c.
 
 pub returns-clause-fault : goal.returns-clause-fault
 returns-clause-fault g c =
-    keeps-open c.runs_go_on.ensures c.faults_go_on.ensures c.codes_are_one.ensures.read c.codes-codes.result.now g.N.World.design g.N.World.plan (c.args.window.now.before + c.args.end)
-    (passed_behind c.args.strobes.now) c.args.machine.now c.args.grader.now c.args.own.now _ c.codes-codes.ensures.world c.requires.stays
+    keeps-open c.runs_go_on.ensures c.strobed_faults_go_on.ensures c.codes_are_one.ensures.read c.codes-codes.result.now g.N.World.design g.N.World.plan (c.args.window.now.before + c.args.end)
+    (passed_behind c.args.strobes.now) c.args.machine.now c.args.own.now _ c.codes-codes.ensures.world c.requires.stays
     (record {
       copy =
           subst (λ codes. IsCopyOf codes (state_through g.N.World.design g.N.World.plan (c.args.window.now.before + c.args.end)) (state_kept c.args.machine.now) c.leave.new.copy)
@@ -35,6 +35,9 @@ returns-clause-fault g c =
       place = c.in_ok-leave.ensures.fault;
       between = c.stands_between.ensures;
       time_is = c.time-own.ensures;
-      possible_is = c.possible-own.ensures;
+      strobed_is = refl;
       end_is = refl;
     })
+
+pub returns-clause-place : goal.returns-clause-place
+returns-clause-place g c = record { number = c.in_ok-leave.ensures.fault; kind = refl }

@@ -2,7 +2,7 @@
 use Rattle.std.proofs.Common.{sym, ap, subst, ◌∙◌}
 use Rattle.std.specs.Prelude.{None}
 use Rattle.v_design.specs.Designs.{Machine}
-use Rattle.lockstep_room.specs.Rooms.{AreCounts}
+use Rattle.block_compare.specs.lockstep_room.Rooms.{AreCounts}
 use Rattle.faulty_block.proofs.PutBack.{first-stands, may-take-out, still-stands}
 use Rattle.faulty_block.proofs.back.put_back.Goals as goal
 
@@ -40,7 +40,7 @@ take_out-requires-clause-taken c =
 
 pub returns-clause-machine : goal.returns-clause-machine
 returns-clause-machine c =
-    c.in_ok-take_out.ensures.machine ∙ ap (λ (m : Machine). record m { fault = None }) (c.in_ok-bring-2.ensures.machine ∙ c.in_ok-bring.ensures.machine)
+    c.take_out.ensures.machine ∙ ap (λ (m : Machine). record m { fault = None }) (c.in_ok-bring-2.ensures.machine ∙ c.in_ok-bring.ensures.machine)
 
 pub returns-clause-state : goal.returns-clause-state
 unfolding first-stands still-stands may-take-out
@@ -51,7 +51,7 @@ returns-clause-state c = λ of.
     let told = c.args.told.now in
     let own = c.args.own.now in
     let first = c.in_ok-bring.ensures.state (first-stands runner before block told own of) in
-    c.in_ok-take_out.ensures.state
+    c.take_out.ensures.state
     (may-take-out runner before block told own c.bring.new.runner c.in_ok-bring.ensures.machine c.as_slice.result.now of first c.bring-2.new.runner c.in_ok-bring-2.ensures.machine
     c.as_slice.ensures.value
     (c.in_ok-bring-2.ensures.state (still-stands runner before block told own c.bring.new.runner c.in_ok-bring.ensures.machine c.as_slice.result.now of first)))

@@ -2,23 +2,25 @@
 use Rattle.std.proofs.Common.{◌≤◌, ◌^◌, ap, sym, subst, ◌∙◌}
 use Rattle.v_design.specs.Designs.{Machine}
 use Rattle.v_design.specs.Plain.{fault_of}
-use Rattle.v_design.specs.States.{State}
 use Rattle.v_design.specs.WellFormed.{KeepsRules}
-use Rattle.machine_laws.specs.SlotLoop.{NoNodeWorks}
 use Rattle.race_laws.specs.Writes.{WritesAreOf}
 use Rattle.machine_events.specs.Steps.{raised_by}
-use Rattle.block_events.specs.Runners.{machine_of, state_of}
-use Rattle.faulty_block.proofs.Ran.{process-counted, ran-some, ran-within}
+use Rattle.block_compare.specs.block_events.Runners.{machine_of, state_of}
+use Rattle.faulty_block.proofs.Ran.{process-counted, put-rests, put-time, put-writes, ran-block, ran-some, ran-within}
 use Rattle.faulty_block.proofs.run.run_faulty.Goals as goal
 
 pub put_in-requires-clause-put : goal.put_in-requires-clause-put
 put_in-requires-clause-put g c = c.requires.run.put
 
 pub run_block-requires-clause-nodes : goal.run_block-requires-clause-nodes
-run_block-requires-clause-nodes g c = subst NoNodeWorks (sym (c.in_ok-put_in.ensures.state c.requires.run.put)) c.requires.run.rests
+run_block-requires-clause-nodes g c =
+    put-rests c.lockstep_is_beside.ensures.beside c.writes_are_unseen.ensures c.args.runner.now c.put_in.new.runner c.args.own.now c.args.block.now c.requires.run
+    (c.in_ok-put_in.ensures.state c.requires.run.put)
 
 pub run_block-requires-clause-time : goal.run_block-requires-clause-time
-run_block-requires-clause-time g c = subst (λ (s : State). s.time ≤ 2 ^ 63) (sym (c.in_ok-put_in.ensures.state c.requires.run.put)) c.requires.run.time
+run_block-requires-clause-time g c =
+    put-time c.lockstep_is_beside.ensures.beside c.writes_are_unseen.ensures c.args.runner.now c.put_in.new.runner c.args.own.now c.args.block.now c.requires.run
+    (c.in_ok-put_in.ensures.state c.requires.run.put)
 
 pub run_block-requires-clause-rules : goal.run_block-requires-clause-rules
 run_block-requires-clause-rules g c = subst (λ (m : Machine). KeepsRules m.design) (sym c.in_ok-put_in.ensures.machine) c.requires.run.rules
@@ -26,7 +28,8 @@ run_block-requires-clause-rules g c = subst (λ (m : Machine). KeepsRules m.desi
 pub run_block-requires-clause-writes : goal.run_block-requires-clause-writes
 run_block-requires-clause-writes g c =
     subst (λ (m : Machine). WritesAreOf m.design (state_of c.put_in.new.runner)) (sym c.in_ok-put_in.ensures.machine)
-    (subst (λ (s : State). WritesAreOf (machine_of c.args.runner.now).design s) (sym (c.in_ok-put_in.ensures.state c.requires.run.put)) c.requires.run.writes)
+    (put-writes c.lockstep_is_beside.ensures.beside c.writes_are_unseen.ensures c.args.runner.now c.put_in.new.runner c.args.own.now c.args.block.now c.requires.run
+    (c.in_ok-put_in.ensures.state c.requires.run.put))
 
 pub returns-clause-whole : goal.returns-clause-whole
 returns-clause-whole g c = c.in_ok-end.ensures.goes.whole
@@ -41,17 +44,23 @@ pub returns-clause-ran : goal.returns-clause-ran
 returns-clause-ran g c =
     let begins = c.put_in.new.runner in
     let goes = c.in_ok-end.ensures.goes in
-    let rests = subst NoNodeWorks (sym (c.in_ok-put_in.ensures.state c.requires.run.put)) c.requires.run.rests in
-    ran-some c.args.runner.now begins c.run_block.new.runner c.args.own.now (fault_of c.args.fault) c.args.most c.in_ok-end.end c.run_block.new.told c.steps_within.result c.process_steps.result
-    c.in_ok-put_in.ensures.machine c.in_ok-put_in.ensures.state goes
+    let side = c.lockstep_is_beside.ensures.beside in
+    let law = c.writes_are_unseen.ensures in
+    let rests = put-rests side law c.args.runner.now begins c.args.own.now c.args.block.now c.requires.run (c.in_ok-put_in.ensures.state c.requires.run.put) in
+    ran-some c.args.runner.now c.run_block.new.runner c.args.own.now c.args.block.now (fault_of c.args.fault) c.in_ok-end.end c.run_block.new.told c.steps_within.result c.process_steps.result
+    (λ of.
+    ran-block side law c.args.runner.now begins c.args.own.now c.args.block.now of (c.in_ok-put_in.ensures.state of.put) c.run_block.new.runner (fault_of c.args.fault) c.args.most c.in_ok-end.end
+    c.run_block.new.told c.process_steps.result c.in_ok-put_in.ensures.machine goes c.in_ok-end.ensures.one
     (process-counted (machine_of begins) (state_of begins) c.args.most c.in_ok-end.end c.run_block.new.runner c.run_block.new.told c.first_lane-lane.result c.process_steps.result rests
-    c.first_lane-lane.ensures c.in_ok-end.ensures.one c.process_steps.ensures goes) c.steps_within.ensures.end c.steps_within.ensures.steps
+    c.first_lane-lane.ensures c.in_ok-end.ensures.one c.process_steps.ensures goes))
+    c.steps_within.ensures.end c.steps_within.ensures.steps
 
 pub returns-clause-ticks : goal.returns-clause-ticks
 returns-clause-ticks g c =
     let begins = c.put_in.new.runner in
     let goes = c.in_ok-end.ensures.goes in
-    let rests = subst NoNodeWorks (sym (c.in_ok-put_in.ensures.state c.requires.run.put)) c.requires.run.rests in
+    let rests = put-rests c.lockstep_is_beside.ensures.beside c.writes_are_unseen.ensures c.args.runner.now begins c.args.own.now c.args.block.now c.requires.run
+    (c.in_ok-put_in.ensures.state c.requires.run.put) in
     c.in_ok-end.ensures.ticks goes
     ∙ ap (λ n. raised_by n c.args.steps.now)
     (process-counted (machine_of begins) (state_of begins) c.args.most c.in_ok-end.end c.run_block.new.runner c.run_block.new.told c.first_lane-lane.result c.process_steps.result rests
@@ -61,8 +70,11 @@ pub returns-clause-most : goal.returns-clause-most
 returns-clause-most g c = λ of.
     let begins = c.put_in.new.runner in
     let goes = c.in_ok-end.ensures.goes in
-    let rests = subst NoNodeWorks (sym (c.in_ok-put_in.ensures.state c.requires.run.put)) c.requires.run.rests in
-    ran-within c.args.runner.now begins c.run_block.new.runner c.args.own.now (fault_of c.args.fault) c.args.most c.in_ok-end.end c.run_block.new.told c.process_steps.result
-    c.in_ok-put_in.ensures.machine c.in_ok-put_in.ensures.state goes
+    let side = c.lockstep_is_beside.ensures.beside in
+    let law = c.writes_are_unseen.ensures in
+    let put = c.in_ok-put_in.ensures.state of.put in
+    let rests = put-rests side law c.args.runner.now begins c.args.own.now c.args.block.now of put in
+    ran-within side law c.args.runner.now begins c.args.own.now c.args.block.now of put c.run_block.new.runner (fault_of c.args.fault) c.args.most c.in_ok-end.end c.run_block.new.told
+    c.process_steps.result c.in_ok-put_in.ensures.machine goes c.in_ok-end.ensures.one
     (process-counted (machine_of begins) (state_of begins) c.args.most c.in_ok-end.end c.run_block.new.runner c.run_block.new.told c.first_lane-lane.result c.process_steps.result rests
-    c.first_lane-lane.ensures c.in_ok-end.ensures.one c.process_steps.ensures goes) c.in_ok-end.ensures.few of
+    c.first_lane-lane.ensures c.in_ok-end.ensures.one c.process_steps.ensures goes) c.in_ok-end.ensures.few

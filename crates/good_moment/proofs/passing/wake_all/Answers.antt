@@ -1,6 +1,6 @@
 -- One wake more.
 use Rattle.std.proofs.Common.{get_or, refl, arith}
-use Rattle.window_wakes.specs.declared.wake.Wake.{Wake}
+use Rattle.passed_blocks.specs.window_wakes.declared.wake.Wake.{Wake}
 use Rattle.good_moment.proofs.Waking.{so-far-none, so-far-more, so-far-all}
 use Rattle.good_moment.proofs.passing.wake_all.Goals as goal
 

@@ -1,5 +1,5 @@
 -- What is shown is compared.
-use Rattle.block_events.specs.Runners.{machine_of, state_of}
+use Rattle.faulty_block.specs.block_events.Runners.{machine_of, state_of}
 use Rattle.lockstep_block.proofs.Showing.{compares-beside, may-compare-shown}
 use Rattle.lockstep_block.proofs.beside.compare_beside.Goals as goal
 

@@ -1,7 +1,7 @@
 -- What is shown is put back.
 use Rattle.std.proofs.Common.{sym, ap, subst, ◌∙◌}
 use Rattle.v_design.specs.Designs.{FlatDesign, good_machine}
-use Rattle.lockstep_room.specs.Rooms.{AreCounts}
+use Rattle.faulty_block.specs.lockstep_room.Rooms.{AreCounts}
 use Rattle.lockstep_block.proofs.Showing.{may-put-back-shown}
 use Rattle.lockstep_block.proofs.beside.put_back_to.Goals as goal
 

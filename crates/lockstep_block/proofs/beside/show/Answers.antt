@@ -1,7 +1,7 @@
 -- What is shown is what the moment has.
 use Rattle.std.proofs.Common.{sym}
 use Rattle.v_design.specs.PlainDesigns.{design_of}
-use Rattle.moment_parts.specs.Lanes.{lanes_left, later_lists}
+use Rattle.good_moment.specs.moment_parts.Lanes.{lanes_left, later_lists}
 use Rattle.lockstep_block.proofs.Showing.{shows-parts}
 use Rattle.lockstep_block.proofs.beside.show.Goals as goal
 

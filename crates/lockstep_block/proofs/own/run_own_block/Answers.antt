@@ -1,7 +1,7 @@
 -- The block is taken, and the runner put back.
 use Rattle.std.proofs.Common.{sym, subst, ◌∙◌}
 use Rattle.v_design.specs.Plain.{fault_of}
-use Rattle.lockstep_room.specs.Rooms.{AreCounts}
+use Rattle.faulty_block.specs.lockstep_room.Rooms.{AreCounts}
 use Rattle.lockstep_block.proofs.OwnBlocks.{good-again}
 use Rattle.lockstep_block.proofs.own.run_own_block.Goals as goal
 

@@ -2,9 +2,9 @@
 use Rattle.std.proofs.Common.{map, sym, ap, subst, ◌∙◌}
 use Rattle.vf_base.specs.Base.{object_number, process_number}
 use Rattle.v_design.specs.Designs.{Machine, good_machine}
-use Rattle.lockstep_room.specs.Rooms.{AreCounts}
-use Rattle.lockstep_slots.specs.Places.{state_there, behind_events}
-use Rattle.moment_shown.specs.Shown.{Shows}
+use Rattle.faulty_block.specs.lockstep_room.Rooms.{AreCounts}
+use Rattle.lockstep_steps.specs.lockstep_slots.Places.{state_there, behind_events}
+use Rattle.faulty_block.specs.moment_shown.Shown.{Shows}
 use Rattle.lockstep_block.proofs.Passed.{PassLaws, behind-may, may-follow, may-stand}
 use Rattle.lockstep_block.proofs.pass.follow_block.Goals as goal
 

@@ -1,10 +1,10 @@
 -- The runner comes into the state that is shown.
 use Rattle.std.proofs.Common.{sym, ap, subst, ◌∙◌}
 use Rattle.v_design.specs.Designs.{Machine, good_machine}
-use Rattle.block_events.specs.Runners.{machine_of}
-use Rattle.lockstep_room.specs.Rooms.{AreCounts}
-use Rattle.lockstep_slots.specs.Places.{state_there}
-use Rattle.moment_shown.specs.Shown.{Shows}
+use Rattle.faulty_block.specs.block_events.Runners.{machine_of}
+use Rattle.faulty_block.specs.lockstep_room.Rooms.{AreCounts}
+use Rattle.lockstep_steps.specs.lockstep_slots.Places.{state_there}
+use Rattle.faulty_block.specs.moment_shown.Shown.{Shows}
 use Rattle.lockstep_block.proofs.Passed.{may-stand-at}
 use Rattle.lockstep_block.proofs.pass.stand_at.Goals as goal
 

@@ -2,7 +2,7 @@
 use Rattle.std.proofs.Common.{◌≡◌, map, true, ap, ◌∙◌, rules}
 use Rattle.vf_base.specs.Base.{object_number}
 use Rattle.v_design.specs.Designs.{FlatDesign}
-use Rattle.lockstep_notes.specs.Notes.{some_reaches}
+use Rattle.phase_reach.specs.lockstep_notes.Notes.{some_reaches}
 use Rattle.lockstep_filter.proofs.Free.{FilterLaws, leaves-none}
 use Rattle.lockstep_filter.proofs.filter.is_free.Goals as goal
 

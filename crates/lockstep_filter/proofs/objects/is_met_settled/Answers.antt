@@ -4,7 +4,7 @@ use Rattle.vf_base.specs.Base.{object_number}
 use Rattle.v_design.specs.Paths.{paths}
 use Rattle.v_design.specs.States.{found_or}
 use Rattle.race_notes.specs.declared.note.ObjectNote.{ObjectNote}
-use Rattle.lockstep_notes.specs.Notes.{some_reaches}
+use Rattle.phase_reach.specs.lockstep_notes.Notes.{some_reaches}
 use Rattle.lockstep_filter.proofs.objects.is_met_settled.Goals as goal
 
 unless : (b c : Bool) → (b ≡ true → c ≡ true) → c ≡ false → b ≡ false

@@ -8,7 +8,7 @@ use Rattle.v_design.specs.Designs.{good_machine, faulty_machine}
 use Rattle.v_design.specs.PhaseLogs.{log_of}
 use Rattle.block_filter.specs.Blocks.{all_accesses}
 use Rattle.block_told.specs.Tells.{is_lane, noted_seen}
-use Rattle.lockstep_slots.specs.Places.{state_there}
+use Rattle.window_tests.specs.lockstep_slots.Places.{state_there}
 use Rattle.race_notes.specs.Notes.{OwnBlock}
 use Rattle.lockstep_notes.specs.Likes.{LikeSeen, HasLikeBetween}
 use Rattle.lockstep_notes.specs.Notes.{own_blocks}

@@ -4,7 +4,7 @@ use Rattle.std.specs.List.{sum_by}
 use Rattle.v_design.specs.Plain.{fault_of}
 use Rattle.lockstep_turn.specs.lockstep_block.Rooms.{CanFollow, IsRunnerAt, MayStandThere}
 use Rattle.lockstep_turn.specs.lockstep_room.Rooms.{AreCounts}
-use Rattle.lockstep_slots.specs.Places.{Place, behind_events}
+use Rattle.lockstep_turn.specs.lockstep_slots.Places.{Place, behind_events}
 use Rattle.lockstep_turn.specs.moment_laws.Passing.{HasBlock, PassesBlock}
 use Rattle.lockstep_turn.specs.moment_laws.Places.{IsInWindow, IsShownAt}
 use Rattle.lockstep_turn.specs.moment_laws.Shown.{MomentKept}

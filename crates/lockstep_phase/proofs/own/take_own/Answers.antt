@@ -2,11 +2,11 @@
 use Rattle.std.proofs.Common.{◌≤◌, refl, sym, ap, subst, ◌∙◌, arith}
 use Rattle.std.proofs.lemmas.Bool.{false≢true}
 use Rattle.v_design.specs.Plain.{fault_of}
-use Rattle.graded_steps.specs.Behind.{RisesWithin}
+use Rattle.lockstep_turn.specs.graded_steps.Behind.{RisesWithin}
 use Rattle.lockstep_turn.specs.lockstep_block.Blocks.{FaultGoes}
 use Rattle.lockstep_turn.specs.lockstep_block.Rooms.{MayStandThere}
 use Rattle.lockstep_turn.specs.lockstep_room.Rooms.{AreCounts}
-use Rattle.lockstep_slots.specs.Places.{behind_events}
+use Rattle.lockstep_turn.specs.lockstep_slots.Places.{behind_events}
 use Rattle.lockstep_turn.specs.moment_laws.Places.{IsShownAt}
 use Rattle.lockstep_turn.specs.moment_laws.Shown.{MomentKept}
 use Rattle.lockstep_turn.proofs.slot_laws.Going.{are-processes, are-there}

@@ -1,6 +1,6 @@
 -- So far the room is on its way to the place at the moment.
 use Rattle.std.proofs.Common.{◌≡◌, ℕ, ◌-◌}
-use Rattle.lockstep_slots.specs.Places.{Place}
+use Rattle.lockstep_turn.specs.lockstep_slots.Places.{Place}
 use Rattle.lockstep_turn.specs.slot_laws.Slots.{IsRoomIn, StopsAt, further}
 use Rattle.lockstep_turn.proofs.slot_laws.Further.{IsOnTheWay}
 use Rattle.lockstep_phase.proofs.pass.pass_until.Given as goal

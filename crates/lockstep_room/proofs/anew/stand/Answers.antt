@@ -2,8 +2,8 @@
 use Rattle.std.proofs.Common.{length, subst, sym, ap, ◌∙◌, arith}
 use Rattle.v_design.specs.Designs.{Machine}
 use Rattle.v_design.specs.States.{State}
-use Rattle.block_events.specs.Runners.{machine_of, state_of}
-use Rattle.block_events.proofs.Nodes.{object-count}
+use Rattle.lockstep_exchange.specs.block_events.Runners.{machine_of, state_of}
+use Rattle.lockstep_exchange.proofs.block_events.Nodes.{object-count}
 use Rattle.lockstep_exchange.specs.Putting.{ValuesArePut, ProcessesArePut}
 use Rattle.lockstep_room.specs.Rooms.{AreCounts, processes_below, values_below}
 use Rattle.lockstep_room.proofs.Standing.{stands-values, stands-cleared}

@@ -4,7 +4,7 @@ use Rattle.std.specs.Prelude.{Some}
 use Rattle.four_value.specs.Values.{LogicValue}
 use Rattle.v_design.specs.Assignments.{value_at}
 use Rattle.v_design.specs.Designs.{Machine, width_in}
-use Rattle.block_events.specs.Runners.{state_of}
+use Rattle.lockstep_exchange.specs.block_events.Runners.{state_of}
 use Rattle.lockstep_exchange.specs.Putting.{ValuesArePut}
 use Rattle.lockstep_room.specs.Rooms.{values_below}
 use Rattle.lockstep_exchange.proofs.Puts.{below-within, below-past, below-next, value-more, values-none}

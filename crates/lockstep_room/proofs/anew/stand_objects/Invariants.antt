@@ -1,6 +1,6 @@
 -- So far they are as shown.
 use Rattle.std.proofs.Common.{◌≡◌}
-use Rattle.block_events.specs.Runners.{IsWhole, machine_of, state_of}
+use Rattle.lockstep_exchange.specs.block_events.Runners.{IsWhole, machine_of, state_of}
 use Rattle.lockstep_exchange.specs.Putting.{ValuesArePut}
 use Rattle.lockstep_room.specs.Rooms.{values_below}
 use Rattle.lockstep_room.specs.Rooms.{MayStandSo}

@@ -3,7 +3,7 @@ use Rattle.std.proofs.Common.{◌≡◌, ℕ, ◌+◌, [], ◌∷◌, refl, sym,
 use Rattle.std.specs.Prelude.{Some}
 use Rattle.v_design.specs.Designs.{Machine}
 use Rattle.v_design.specs.States.{process_at}
-use Rattle.block_events.specs.Runners.{machine_of, state_of}
+use Rattle.lockstep_exchange.specs.block_events.Runners.{machine_of, state_of}
 use Rattle.lockstep_exchange.specs.Putting.{ProcessesArePut}
 use Rattle.lockstep_room.specs.Rooms.{AreCounts, processes_among, processes_below}
 use Rattle.lockstep_exchange.proofs.Puts.{below-past, processes-none}

@@ -2,7 +2,7 @@
 use Rattle.std.proofs.Common.{map, subst, sym, ap, ◌∙◌}
 use Rattle.vf_base.specs.Base.{object_number, process_number}
 use Rattle.v_design.specs.Designs.{Machine}
-use Rattle.block_events.specs.Runners.{machine_of, state_of}
+use Rattle.lockstep_exchange.specs.block_events.Runners.{machine_of, state_of}
 use Rattle.lockstep_room.specs.Rooms.{AreCounts, processes_among, values_among}
 use Rattle.lockstep_room.proofs.Standing.{stands-processes, stands-values}
 use Rattle.lockstep_room.proofs.Followed.{brought}

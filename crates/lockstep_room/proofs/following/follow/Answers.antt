@@ -1,7 +1,7 @@
 -- The state is the one that is shown.
 use Rattle.std.proofs.Common.{map}
 use Rattle.vf_base.specs.Base.{object_number, process_number}
-use Rattle.block_events.specs.Runners.{machine_of, state_of}
+use Rattle.lockstep_exchange.specs.block_events.Runners.{machine_of, state_of}
 use Rattle.lockstep_room.proofs.Followed.{followed}
 use Rattle.lockstep_room.proofs.following.follow.Goals as goal
 

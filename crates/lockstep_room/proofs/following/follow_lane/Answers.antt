@@ -2,10 +2,11 @@
 use Rattle.std.proofs.Common.{sym, ap, subst}
 use Rattle.std.specs.Prelude.{Option}
 use Rattle.vf_base.specs.declared.ids.ProcId.{ProcId}
-use Rattle.block_events.specs.Runners.{state_of}
+use Rattle.lockstep_exchange.specs.block_events.Runners.{state_of}
 use Rattle.lockstep_exchange.specs.Putting.{ProcessesArePut}
 use Rattle.lockstep_exchange.proofs.Puts.{processes-none}
-use Rattle.lockstep_room.specs.Rooms.{lane_numbers, processes_among}
+use Rattle.lockstep_room.specs.Rooms.{processes_among}
+use Rattle.lockstep_exchange.specs.Putting.{lane_numbers}
 use Rattle.lockstep_room.proofs.following.follow_lane.Goals as goal
 
 pub returns-in_default-clause-state : goal.returns-in_default-clause-state

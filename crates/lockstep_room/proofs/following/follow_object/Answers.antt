@@ -4,8 +4,8 @@ use Rattle.std.specs.Prelude.{Some, None}
 use Rattle.vf_base.specs.Base.{object_number}
 use Rattle.four_value.specs.Values.{LogicValue}
 use Rattle.v_design.specs.Assignments.{value_at}
-use Rattle.block_events.specs.Runners.{state_of}
-use Rattle.block_events.proofs.Nodes.{object-count}
+use Rattle.lockstep_exchange.specs.block_events.Runners.{state_of}
+use Rattle.lockstep_exchange.proofs.block_events.Nodes.{object-count}
 use Rattle.lockstep_exchange.proofs.Puts.{value-more, values-none}
 use Rattle.lockstep_room.specs.Rooms.{values_among}
 use Rattle.lockstep_room.proofs.Standing.{one-here, one-other, value-absent}

@@ -5,7 +5,7 @@ use Rattle.vf_base.specs.Base.{object_number}
 use Rattle.vf_base.specs.declared.ids.ObjectId.{ObjectId}
 use Rattle.v_design.specs.Assignments.{value_at}
 use Rattle.v_design.specs.Designs.{Machine}
-use Rattle.block_events.specs.Runners.{machine_of, state_of}
+use Rattle.lockstep_exchange.specs.block_events.Runners.{machine_of, state_of}
 use Rattle.lockstep_exchange.specs.Putting.{ValuesArePut}
 use Rattle.lockstep_exchange.proofs.Puts.{values-none}
 use Rattle.lockstep_room.specs.Rooms.{AreCounts, values_among}

@@ -1,7 +1,7 @@
 -- So far the objects hold what is shown.
 use Rattle.std.proofs.Common.{◌≡◌, map, take}
 use Rattle.vf_base.specs.Base.{object_number}
-use Rattle.block_events.specs.Runners.{IsWhole, machine_of, state_of}
+use Rattle.lockstep_exchange.specs.block_events.Runners.{IsWhole, machine_of, state_of}
 use Rattle.lockstep_exchange.specs.Putting.{ValuesArePut}
 use Rattle.lockstep_room.specs.Rooms.{values_among}
 use Rattle.lockstep_room.specs.Rooms.{MayStandSo}

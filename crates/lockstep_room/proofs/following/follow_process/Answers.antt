@@ -7,8 +7,8 @@ use Rattle.v_design.specs.Plain.{due_of, update_of}
 use Rattle.v_design.specs.States.{ProcessState, process_at}
 use Rattle.process_table.specs.Replaces.{state_with}
 use Rattle.good_trace.specs.RunsKept.{Stands}
-use Rattle.block_events.specs.Runners.{machine_of, state_of}
-use Rattle.block_events.proofs.Nodes.{process-count}
+use Rattle.lockstep_exchange.specs.block_events.Runners.{machine_of, state_of}
+use Rattle.lockstep_exchange.proofs.block_events.Nodes.{process-count}
 use Rattle.lockstep_exchange.proofs.Puts.{process-more, processes-none}
 use Rattle.lockstep_room.specs.Rooms.{processes_among}
 use Rattle.lockstep_room.proofs.Standing.{may-stand-there, one-here, one-other, process-absent, some-code}

@@ -5,7 +5,7 @@ use Rattle.vf_base.specs.Base.{process_number}
 use Rattle.vf_base.specs.declared.ids.ProcId.{ProcId}
 use Rattle.v_design.specs.Designs.{Machine}
 use Rattle.v_design.specs.States.{process_at}
-use Rattle.block_events.specs.Runners.{machine_of, state_of}
+use Rattle.lockstep_exchange.specs.block_events.Runners.{machine_of, state_of}
 use Rattle.lockstep_exchange.specs.Putting.{ProcessesArePut}
 use Rattle.lockstep_exchange.proofs.Puts.{processes-none}
 use Rattle.lockstep_room.specs.Rooms.{AreCounts, processes_among}

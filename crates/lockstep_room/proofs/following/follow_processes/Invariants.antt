@@ -1,7 +1,7 @@
 -- So far the processes stand where they are shown to.
 use Rattle.std.proofs.Common.{◌≡◌, map, take}
 use Rattle.vf_base.specs.Base.{process_number}
-use Rattle.block_events.specs.Runners.{IsWhole, machine_of, state_of}
+use Rattle.lockstep_exchange.specs.block_events.Runners.{IsWhole, machine_of, state_of}
 use Rattle.lockstep_exchange.specs.Putting.{ProcessesArePut}
 use Rattle.lockstep_room.specs.Rooms.{processes_among}
 use Rattle.lockstep_room.specs.Rooms.{MayStandSo}

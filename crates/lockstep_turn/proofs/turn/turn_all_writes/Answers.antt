@@ -6,7 +6,7 @@ use Rattle.v_design.specs.Designs.{FlatDesign}
 use Rattle.v_design.specs.PlainDesigns.{design_of}
 use Rattle.v_design.specs.RulesHold.{rules_hold}
 use Rattle.copy_state.specs.Entries.{first_from}
-use Rattle.copy_skip.specs.Entries.{next-kept}
+use Rattle.phase_faults.specs.copy_skip.Entries.{next-kept}
 use Rattle.lockstep_turn.proofs.Writes.{left-falls, next-below, turned-all, turned-first, turned-more}
 use Rattle.lockstep_turn.proofs.turn.turn_all_writes.Goals as goal
 

@@ -5,8 +5,8 @@ use Rattle.vf_base.specs.Base.{process_number}
 use Rattle.v_design.specs.Assignments.{ValueUpdate}
 use Rattle.v_design.specs.Plain.{update_of}
 use Rattle.v_design.specs.declared.plan.Update.{Update}
-use Rattle.lockstep_copy.specs.Kept.{TurnsWrites, kept_by}
-use Rattle.lockstep_copy.specs.declared.own.LockstepCopy.{LockstepCopy}
+use Rattle.phase_faults.specs.lockstep_copy.Kept.{TurnsWrites, kept_by}
+use Rattle.phase_faults.specs.lockstep_copy.declared.own.LockstepCopy.{LockstepCopy}
 use Rattle.phase_faults.specs.slot_laws.Slots.{TurnsOne, turned_beside}
 use Rattle.lockstep_turn.proofs.turn.turn_one.Goals as goal
 

@@ -6,7 +6,7 @@ use Rattle.copy_laws.specs.Windows.{good_slots}
 use Rattle.shard_claims.specs.copy_shard.Shards.{places_of}
 use Rattle.std.specs.List.{All}
 use Rattle.fault_shards.specs.Found.{IsFinding, found_faults}
-use Rattle.shard_claims.specs.Workers.{claimed_steps}
+use Rattle.shard_claims.specs.copy_shard.Together.{claimed_steps}
 use Rattle.shard_crew.specs.Crews.{claimed_most, places_in, IsFoundShard}
 use Rattle.shard_crew.proofs.Ticks.{claimed-within}
 use Rattle.shard_crew.proofs.Gathering.{places-more}

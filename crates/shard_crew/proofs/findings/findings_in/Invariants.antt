@@ -1,7 +1,7 @@
 -- The findings of so many shards.
 use Rattle.std.proofs.Common.{◌≡◌, ◌≤◌, take}
 use Rattle.v_design.specs.WellFormed.{KeepsRules}
-use Rattle.shard_claims.specs.Workers.{claimed_steps}
+use Rattle.shard_claims.specs.copy_shard.Together.{claimed_steps}
 use Rattle.std.specs.List.{All}
 use Rattle.fault_shards.specs.Found.{IsFinding, found_faults}
 use Rattle.shard_crew.specs.Crews.{claimed_most, places_in, IsFoundShard}

@@ -7,7 +7,7 @@ use Rattle.fault_shards.specs.Found.{found_faults}
 use Rattle.fault_shards.specs.Shards.{representatives_of}
 use Rattle.verdict_words.specs.Seats.{view}
 use Rattle.verdict_settle.specs.Settling.{AreSettled}
-use Rattle.shard_claims.specs.Workers.{claimed_steps}
+use Rattle.shard_claims.specs.copy_shard.Together.{claimed_steps}
 use Rattle.shard_crew.specs.Crews.{claimed_most, places_in, HaveGone, IsFoundShard}
 use Rattle.shard_claims.specs.WorkerLaws.{claimed-behind}
 use Rattle.shard_crew.proofs.Gathering.{all-gone, gathers}

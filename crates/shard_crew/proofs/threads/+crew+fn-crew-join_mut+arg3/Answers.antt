@@ -12,7 +12,7 @@ use Rattle.vf_base.proofs.steps.Steps.TheSendSync as steps_crosses
 use Rattle.shard_claims.proofs.worker.Worker.TheSendSync as worker_crosses
 use Rattle.shard_crew.proofs.Crossing.{option_send, round_sync}
 use Rattle.shard_crew.proofs.Manning.{none-popped, workers-last, workers-more, workers-no}
-use Rattle.graded_steps.specs.Behind.{RisesTwice}
+use Rattle.shard_claims.specs.graded_steps.Behind.{RisesTwice}
 use Rattle.shard_claims.specs.Workers.{IsWorkerAt, worker_steps}
 use Rattle.shard_crew.proofs.Ticks.{crew-more, nothing-rises}
 use Rattle.shard_crew.proofs.threads.+crew+fn-crew-join_mut+arg3.Given.{Over}

@@ -4,7 +4,7 @@ use Rattle.copy_laws.specs.Windows.{good_slots}
 use Rattle.fault_shards.specs.Shards.{representatives_of}
 use Rattle.std.specs.Prelude.{sum}
 use Rattle.good_windows.specs.Next.{steps_of_slots}
-use Rattle.graded_steps.specs.Behind.{RisesTwice, RisesWithin}
+use Rattle.shard_crew.specs.graded_steps.Behind.{RisesTwice, RisesWithin}
 use Rattle.shard_crew.specs.Crews.{crew_steps}
 use Rattle.shard_rounds.specs.Rounds.{IsBeforeRound}
 use Rattle.shard_rounds.proofs.rounds.go_rounds.Given as goal

@@ -4,7 +4,7 @@ use Rattle.std.specs.Prelude.{Some}
 use Rattle.v_design.specs.Plain.{fault_of}
 use Rattle.v_design.specs.declared.plan.Fault.{Fault}
 use Rattle.copy_lockstep.specs.copy_window.ShardFaults.{IsShardFault}
-use Rattle.window_strobes.proofs.Knowing.{design-rules}
+use Rattle.copy_lockstep.proofs.window_strobes.Knowing.{design-rules}
 use Rattle.window_faults.proofs.Steps.{stays-open, steps-here, takes-same}
 use Rattle.window_faults.proofs.Within.{is-listed, none-end}
 use Rattle.shard_slots.specs.Slots.{Enters}

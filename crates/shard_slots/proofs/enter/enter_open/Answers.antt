@@ -3,7 +3,7 @@ use Rattle.std.proofs.Common.{refl, sym, ap, subst, ◌∙◌, arith}
 use Rattle.std.specs.Prelude.{Some, slice_get}
 use Rattle.v_design.specs.Plain.{fault_of}
 use Rattle.v_design.specs.declared.plan.Fault.{Fault}
-use Rattle.window_strobes.proofs.Knowing.{design-rules}
+use Rattle.copy_lockstep.proofs.window_strobes.Knowing.{design-rules}
 use Rattle.copy_lockstep.specs.copy_window.declared.fault.ShardFault.{ShardFault}
 use Rattle.copy_lockstep.specs.Entered.{HasEntered}
 use Rattle.copy_lockstep.specs.declared.entered.Entered.{Entered}
@@ -28,7 +28,7 @@ returns-in-Passed-clause-enters g c =
     c.in_ok-entered.ensures.entered in
     passed-there g.N.World.design g.N.World.plan window.before window.through c.args.at.now.slot (fault_of c.args.fault) c.args.last c.in-Passed.further c.enter.new.own _ c.rests.result
     c.requires.last told refl refl
-    (ap (slice_get g.N.World.plan.faults) c.in_ok-entered.ensures.place ∙ c.requires.listed ∙ ap (λ (f : Fault). Some (fault_of f)) (sym c.rests.ensures.fault)) c.rests.ensures.rests c.rests.ensures.none
+    (ap (slice_get g.N.World.plan.faults) c.in_ok-entered.ensures.place.number ∙ c.requires.listed ∙ ap (λ (f : Fault). Some (fault_of f)) (sym c.rests.ensures.fault)) c.rests.ensures.rests c.rests.ensures.none
 
 pub returns-in-Ended-clause-enters : goal.returns-in-Ended-clause-enters
 returns-in-Ended-clause-enters g c =
@@ -37,7 +37,7 @@ returns-in-Ended-clause-enters g c =
     c.in_ok-entered.ensures.entered in
     ended-there g.N.World.design g.N.World.plan window.before window.through c.args.at.now.slot c.faults_go_on.ensures
     (design-rules g.N.World.design c.design-design.result.now c.design-design.ensures.world) c.enter.new.own _ c.rests-in-Ended.result c.requires.slot told refl
-    (ap (slice_get g.N.World.plan.faults) c.in_ok-entered.ensures.place ∙ c.requires.listed ∙ ap (λ (f : Fault). Some (fault_of f)) (sym c.rests-in-Ended.ensures.fault)) c.rests-in-Ended.ensures.rests
+    (ap (slice_get g.N.World.plan.faults) c.in_ok-entered.ensures.place.number ∙ c.requires.listed ∙ ap (λ (f : Fault). Some (fault_of f)) (sym c.rests-in-Ended.ensures.fault)) c.rests-in-Ended.ensures.rests
     c.rests-in-Ended.ensures.none
 
 pub returns-in-Whole-clause-enters : goal.returns-in-Whole-clause-enters
@@ -59,7 +59,7 @@ returns-in-On-clause-enters g c =
     (subst (λ (own : ShardFault). IsWithin g.N.World.design g.N.World.plan window.before window.through own
     (record { slot = c.args.at.now.slot; passed = c.args.at.now.passed; seen = c.in-On.entering.passed; possible = c.in-On.entering.possible })) (sym told.stays)
     (record { within = c.requires.within.within; stands = c.requires.within.stands; has_passed = c.requires.within.has_passed }))
-    (ap (slice_get g.N.World.plan.faults) c.in_ok-entered.ensures.place ∙ c.requires.listed)
+    (ap (slice_get g.N.World.plan.faults) c.in_ok-entered.ensures.place.number ∙ c.requires.listed)
 
 pub returns-in-Passed-clause-further : goal.returns-in-Passed-clause-further
 returns-in-Passed-clause-further g c =

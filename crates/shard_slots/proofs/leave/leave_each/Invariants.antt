@@ -2,7 +2,7 @@
 use Rattle.std.proofs.Common.{◌≡◌, ℕ, ◌+◌, ◌≤◌, length}
 use Rattle.std.specs.Prelude.{None, Some, slice_get, sum_by}
 use Rattle.std.specs.List.{AllZip}
-use Rattle.copy_room.specs.Rooms.{IsRoom}
+use Rattle.copy_lockstep.specs.copy_room.Rooms.{IsRoom}
 use Rattle.copy_lockstep.specs.phase_faults.Beside.{ticked_of}
 use Rattle.copy_lockstep.specs.copy_window.declared.fault.ShardFault.{ShardFault}
 use Rattle.copy_lockstep.specs.phase_faults.declared.beside.FaultBeside.{FaultBeside}

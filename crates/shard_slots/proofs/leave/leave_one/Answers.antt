@@ -1,9 +1,9 @@
 -- Passed, through in lockstep, or whole.
 use Rattle.std.proofs.Common.{◌≡◌, ℕ, ◌+◌, true, false, sym, ap, subst, ◌∙◌, arith}
 use Rattle.std.specs.Prelude.{None, is_some}
-use Rattle.window_strobes.proofs.Knowing.{design-rules}
+use Rattle.copy_lockstep.proofs.window_strobes.Knowing.{design-rules}
 use Rattle.v_design.specs.Plain.{fault_of}
-use Rattle.graded_steps.specs.Behind.{RisesWithin}
+use Rattle.copy_lockstep.specs.graded_steps.Behind.{RisesWithin}
 use Rattle.copy_lockstep.specs.copy_window.ShardFaults.{IsShardFault, steps_taken}
 use Rattle.window_faults.proofs.Steps.{stays-open, stays-same}
 use Rattle.window_faults.proofs.Within.{has-come, none-end, within-there}
@@ -51,45 +51,45 @@ returns-then-slot-at-clause-ticks g c =
     c.args.slot c.args.own.now c.args.at.now c.args.beside c.requires.went (λ at none. absurd (omega (arith, at, c.if-slot-at.true))))
 
 -- one that went through it in lockstep
-pub leave_slot-reached-requires-clause-next : goal.leave_slot-reached-requires-clause-next
-leave_slot-reached-requires-clause-next g c κs within = (c.requires.went.goes c.if-goes.true).more
+pub leave_slot-requires-clause-next : goal.leave_slot-requires-clause-next
+leave_slot-requires-clause-next g c κs within = (c.requires.went.goes c.if-goes.true).more
 
-pub leave_slot-reached-requires-clause-entered : goal.leave_slot-reached-requires-clause-entered
-leave_slot-reached-requires-clause-entered g c κs within = (c.requires.went.goes c.if-goes.true).enters
+pub leave_slot-requires-clause-entered : goal.leave_slot-requires-clause-entered
+leave_slot-requires-clause-entered g c κs within = (c.requires.went.goes c.if-goes.true).enters
 
-pub leave_slot-reached-requires-clause-through : goal.leave_slot-reached-requires-clause-through
-leave_slot-reached-requires-clause-through g c κs within = c.requires.went.through_it c.if-goes.true
+pub leave_slot-requires-clause-through : goal.leave_slot-requires-clause-through
+leave_slot-requires-clause-through g c κs within = c.requires.went.through_it c.if-goes.true
 
-pub leave_slot-reached-requires-clause-states : goal.leave_slot-reached-requires-clause-states
-leave_slot-reached-requires-clause-states g c κs within = (c.requires.went.goes c.if-goes.true).states
+pub leave_slot-requires-clause-states : goal.leave_slot-requires-clause-states
+leave_slot-requires-clause-states g c κs within = (c.requires.went.goes c.if-goes.true).states
 
-pub leave_slot-reached-requires-clause-place : goal.leave_slot-reached-requires-clause-place
-leave_slot-reached-requires-clause-place g c κs within = (c.requires.went.goes c.if-goes.true).place
+pub leave_slot-requires-clause-place : goal.leave_slot-requires-clause-place
+leave_slot-requires-clause-place g c κs within = (c.requires.went.goes c.if-goes.true).place
 
 pub returns-then-goes-clause-within : goal.returns-then-goes-clause-within
 returns-then-goes-clause-within g c =
     let window = c.args.window.now in
-    let slot = c.leave_slot-reached.ensures.slot in
-    let stands = c.leave_slot-reached.ensures.fault in
-    within-there g.N.World.design g.N.World.plan window.before window.through c.leave_slot-reached.result.slot c.leave_slot-reached.result.passed c.leave_slot-reached.new.own c.comes_to.result
+    let slot = c.in_ok-reached.ensures.slot in
+    let stands = c.in_ok-reached.ensures.fault in
+    within-there g.N.World.design g.N.World.plan window.before window.through c.in_ok-reached.reached.slot c.in_ok-reached.reached.passed c.leave_slot.new.own c.comes_to.result
     c.comes_to.ensures.slot c.comes_to.ensures.passed (omega (arith, slot, c.requires.slot)) stands.stands stands.has_passed
 
 pub returns-then-goes-clause-come : goal.returns-then-goes-clause-come
-returns-then-goes-clause-come g c none = omega (arith, c.comes_to.ensures.slot, c.leave_slot-reached.ensures.slot)
+returns-then-goes-clause-come g c none = omega (arith, c.comes_to.ensures.slot, c.in_ok-reached.ensures.slot)
 
 pub returns-then-goes-clause-stays : goal.returns-then-goes-clause-stays
 returns-then-goes-clause-stays g c =
-    stays-open c.args.own.now c.leave_slot-reached.new.own c.leave_slot-reached.ensures.place (none-end c.args.own.now.end (sym c.is_some.ensures ∙ c.if-is_some.false))
+    stays-open c.args.own.now c.leave_slot.new.own c.in_ok-reached.ensures.place (none-end c.args.own.now.end (sym c.is_some.ensures ∙ c.if-is_some.false))
 
 pub returns-then-goes-clause-ticks : goal.returns-then-goes-clause-ticks
 returns-then-goes-clause-ticks g c =
     let window = c.args.window.now in
     let none = none-end c.args.own.now.end (sym c.is_some.ensures ∙ c.if-is_some.false) in
     through-within c.gradings_take_steps.ensures g.N.World.design g.N.World.plan (design-rules g.N.World.design c.design-design.result.now c.design-design.ensures.world) window.before window.through
-    c.args.slot c.args.own.now c.args.at.now c.args.beside c.requires.went (c.requires.went.goes c.if-goes.true).slot_is none c.leave_slot-reached.result.passed c.leave_slot-reached.new.own
-    c.leave_slot-reached.ensures.place
-    (subst (λ (n : ℕ). IsShardFault g.N.World.design g.N.World.plan (window.before + n) c.leave_slot-reached.result.passed c.leave_slot-reached.new.own) c.leave_slot-reached.ensures.slot
-    c.leave_slot-reached.ensures.fault.stands) c.args.steps.now
+    c.args.slot c.args.own.now c.args.at.now c.args.beside c.requires.went (c.requires.went.goes c.if-goes.true).slot_is none c.in_ok-reached.reached.passed c.leave_slot.new.own
+    c.in_ok-reached.ensures.place
+    (subst (λ (n : ℕ). IsShardFault g.N.World.design g.N.World.plan (window.before + n) c.in_ok-reached.reached.passed c.leave_slot.new.own) c.in_ok-reached.ensures.slot
+    c.in_ok-reached.ensures.fault.stands) c.args.steps.now
 
 -- one that is run whole through it
 pub run_whole-requires-clause-slot : goal.run_whole-requires-clause-slot

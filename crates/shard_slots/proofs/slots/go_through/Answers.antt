@@ -1,8 +1,8 @@
 -- Slot by slot.
 use Rattle.std.proofs.Common.{◌≡◌, ℕ, ◌+◌, ap, subst, arith}
-use Rattle.graded_steps.specs.Behind.{RisesTwice}
-use Rattle.window_strobes.proofs.Knowing.{design-rules}
-use Rattle.window_strobes.specs.Strobes.{passed_behind}
+use Rattle.copy_lockstep.specs.graded_steps.Behind.{RisesTwice}
+use Rattle.copy_lockstep.proofs.window_strobes.Knowing.{design-rules}
+use Rattle.copy_lockstep.specs.window_strobes.Strobes.{passed_behind}
 use Rattle.window_faults.specs.Steps.{StaysFault, TakesNoFewer, steps_of_fault, steps_of_faults}
 use Rattle.window_faults.proofs.Lists.{zip-join, zip-law, zip-sums}
 use Rattle.window_faults.proofs.Steps.{stays-on}

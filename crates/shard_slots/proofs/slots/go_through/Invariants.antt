@@ -1,8 +1,8 @@
 -- So far the faults have come to a slot.
 use Rattle.std.specs.Prelude.{◌+◌, ◌≤◌}
 use Rattle.std.specs.List.{AllZip}
-use Rattle.copy_room.specs.Rooms.{IsRoom}
-use Rattle.graded_steps.specs.Behind.{RisesTwice}
+use Rattle.copy_lockstep.specs.copy_room.Rooms.{IsRoom}
+use Rattle.copy_lockstep.specs.graded_steps.Behind.{RisesTwice}
 use Rattle.copy_lockstep.specs.lockstep_block.Rooms.{IsLockstepRoom}
 use Rattle.window_faults.specs.Steps.{StaysFault, steps_of_faults}
 use Rattle.window_faults.specs.Within.{AreWithin}

@@ -5,9 +5,9 @@ use Rattle.std.specs.List.{AllZip}
 use Rattle.vf_base.specs.Lists.{AllHold}
 use Rattle.copy_laws.specs.Windows.{good_slots, time_at}
 use Rattle.good_trace.specs.Traces.{WindowKept}
-use Rattle.graded_steps.specs.Behind.{RisesTwice}
-use Rattle.window_strobes.specs.Passed.{HasPassed}
-use Rattle.window_strobes.specs.Strobes.{AreStrobesOf, passed_behind}
+use Rattle.copy_lockstep.specs.graded_steps.Behind.{RisesTwice}
+use Rattle.copy_lockstep.specs.window_strobes.Passed.{HasPassed}
+use Rattle.copy_lockstep.specs.window_strobes.Strobes.{AreStrobesOf, passed_behind}
 use Rattle.copy_lockstep.specs.copy_window.ShardFaults.{IsShardFault}
 use Rattle.window_faults.specs.Steps.{steps_of_faults}
 use Rattle.window_faults.specs.Within.{ComesThrough}

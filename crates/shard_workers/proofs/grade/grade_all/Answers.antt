@@ -3,7 +3,7 @@ use Rattle.std.proofs.Common.{◌++◌, ap, sym, subst, ◌∙◌}
 use Rattle.std.specs.Prelude.{sum}
 use Rattle.v_design.specs.Designs.{FlatDesign, TestPlan}
 use Rattle.v_design.specs.PlainDesigns.{plan_of}
-use Rattle.shard_workers.specs.Closings.{TicksWithin}
+use Rattle.shard_workers.specs.Closings.{GradedTicks}
 use Rattle.shard_workers.proofs.Ticks.{ticks-over}
 use Rattle.shard_workers.proofs.grade.grade_all.Goals as goal
 
@@ -16,7 +16,7 @@ returns-clause-ticks g c =
     let after = sum (c.work_all.new.own ++ (c.work_all.new.steps ++ rest)) in
     let all = c.split_at_mut-own.ensures.value ∙ ap (λ l. first ++ l) c.split_at_mut-counters.ensures.value in
     let within =
-    subst (λ l. TicksWithin g.N.World.design g.N.World.plan (sum l) after graded) (sym all)
+    subst (λ l. GradedTicks g.N.World.design g.N.World.plan (sum l) after graded) (sym all)
     (ticks-over g.N.World.design g.N.World.plan first counters rest c.work_all.new.own c.work_all.new.steps graded c.in_ok-graded.ensures.ticks) in
-    subst (λ (design : FlatDesign). TicksWithin design (plan_of c.args.plan.now) (sum c.args.steps.now) after graded) c.requires.world.0
-    (subst (λ (plan : TestPlan). TicksWithin g.N.World.design plan (sum c.args.steps.now) after graded) c.requires.world.1 within)
+    subst (λ (design : FlatDesign). GradedTicks design (plan_of c.args.plan.now) (sum c.args.steps.now) after graded) c.requires.world.0
+    (subst (λ (plan : TestPlan). GradedTicks g.N.World.design plan (sum c.args.steps.now) after graded) c.requires.world.1 within)

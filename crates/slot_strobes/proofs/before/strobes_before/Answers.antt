@@ -1,8 +1,8 @@
 -- By the time of the last slot before.
 use Rattle.std.proofs.Common.{◌≡◌, ◌+◌, ◌-◌, ap, subst, ◌∙◌, arith}
 use Rattle.std.specs.Prelude.{slice_get}
-use Rattle.window_strobes.specs.Passed.{HasPassed}
-use Rattle.window_strobes.proofs.Knowing.{design-rules}
+use Rattle.lockstep_shards.specs.window_strobes.Passed.{HasPassed}
+use Rattle.lockstep_shards.proofs.window_strobes.Knowing.{design-rules}
 use Rattle.slot_strobes.proofs.Counted.{passed-before}
 use Rattle.slot_strobes.proofs.before.strobes_before.Goals as goal
 

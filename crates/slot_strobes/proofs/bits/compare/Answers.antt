@@ -1,6 +1,6 @@
 -- Each watched object is one of the design.
 use Rattle.vf_base.specs.Base.{watched_bit}
-use Rattle.window_strobes.specs.Watched.{IsObjectOf}
+use Rattle.lockstep_shards.specs.window_strobes.Watched.{IsObjectOf}
 use Rattle.strobe_detect.proofs.Watches.{AllHold-at}
 use Rattle.slot_strobes.proofs.bits.compare.Goals as goal
 

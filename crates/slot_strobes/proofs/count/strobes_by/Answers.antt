@@ -1,7 +1,7 @@
 -- Strobe by strobe.
 use Rattle.std.proofs.Common.{◌≡◌, ◌≤◌, length, get_or, sym, ap, subst, ◌∙◌, arith}
 use Rattle.v_design.specs.Designs.{TestPlan}
-use Rattle.window_strobes.proofs.Knowing.{plan-rules}
+use Rattle.lockstep_shards.proofs.window_strobes.Knowing.{plan-rules}
 use Rattle.slot_strobes.specs.Counts.{AllBetween}
 use Rattle.slot_strobes.proofs.Counted.{counts-all, counts-next}
 use Rattle.slot_strobes.proofs.Lists.{between-more, between-none, read-at}

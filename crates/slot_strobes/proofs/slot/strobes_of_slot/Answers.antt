@@ -10,11 +10,11 @@ use Rattle.kept_samples.specs.Plain.{sample_of}
 use Rattle.good_trace.specs.declared.ending.GoodEnd.TheVariants.{Open}
 use Rattle.between_slots.specs.Between.{state_through}
 use Rattle.copy_laws.specs.Windows.{good_slots}
-use Rattle.window_strobes.proofs.Knowing.{design-rules}
-use Rattle.window_strobes.specs.Passed.{HasPassed}
-use Rattle.window_strobes.specs.Strobes.{AreStrobesOf, passed_behind}
-use Rattle.window_strobes.specs.declared.strobes.WindowStrobes.{WindowStrobes}
-use Rattle.window_strobes.specs.Watched.{IsObjectOf, objects-watched}
+use Rattle.lockstep_shards.proofs.window_strobes.Knowing.{design-rules}
+use Rattle.lockstep_shards.specs.window_strobes.Passed.{HasPassed}
+use Rattle.lockstep_shards.specs.window_strobes.Strobes.{AreStrobesOf, passed_behind}
+use Rattle.lockstep_shards.specs.window_strobes.declared.strobes.WindowStrobes.{WindowStrobes}
+use Rattle.lockstep_shards.specs.window_strobes.Watched.{IsObjectOf, objects-watched}
 use Rattle.slot_strobes.specs.Counts.{samples_of}
 use Rattle.slot_strobes.proofs.Sampled.{are-strobes, from-none, kept-are, passed-then, starts}
 use Rattle.slot_strobes.proofs.slot.strobes_of_slot.Goals as goal

@@ -2,9 +2,9 @@ use Rattle.std.proofs.Common.{◌≡◌, ◌≤◌, ◌∙◌, ◌⊎◌, ap, su
 use Rattle.vf_base.specs.Counts.{raised}
 use Rattle.v_design.specs.PlainDesigns.{design_of, plan_of}
 use Rattle.kept_samples.specs.Kept.{samples_kept}
-use Rattle.dict_report.specs.declared.fault.OutputFault.TheVariants as output_faults
-use Rattle.dict_report.specs.Outputs as outputs
-use Rattle.dict_report.specs.Orders as orders
+use Rattle.outputs_exist.specs.dict_report.declared.fault.OutputFault.TheVariants as output_faults
+use Rattle.outputs_exist.specs.dict_report.Outputs as outputs
+use Rattle.outputs_exist.specs.dict_report.Orders as orders
 use Rattle.vf_words.specs.Forms.{plain_source}
 use Rattle.vf_words.specs.Words.{Diagnose}
 use Rattle.top_call.specs.Outside.{IfTold, counts_of}

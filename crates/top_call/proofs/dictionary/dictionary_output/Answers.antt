@@ -1,6 +1,6 @@
 use Rattle.std.proofs.Common.{subst, Err}
 use Rattle.v_design.specs.PlainDesigns.{design_of, plan_of}
-use Rattle.dict_report.specs.Outputs as outputs
+use Rattle.outputs_exist.specs.dict_report.Outputs as outputs
 use Rattle.vf_words.specs.Forms.{plain_source}
 use Rattle.vf_words.specs.Words.{Dict}
 use Rattle.top_call.specs.Outside.{IfTold, counts_of}

@@ -1,7 +1,7 @@
 -- A plan has few strobes.
 use Rattle.std.proofs.Common.{◌≤◌, length, arith}
 use Rattle.vf_base.specs.declared.limits.TheConstants.{MAX_STROBES}
-use Rattle.window_strobes.proofs.Knowing.{plan-rules}
+use Rattle.slot_strobes.proofs.window_strobes.Knowing.{plan-rules}
 use Rattle.window_faults.proofs.at.count_behind.Goals as goal
 
 pub overflow_add-result : goal.overflow_add-result

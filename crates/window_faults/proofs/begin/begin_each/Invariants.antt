@@ -2,8 +2,8 @@
 use Rattle.std.proofs.Common.{◌≡◌, ℕ, ◌≤◌, length}
 use Rattle.std.specs.Prelude.{Some, slice_get}
 use Rattle.std.specs.List.{AllZip}
-use Rattle.copy_window.specs.ShardFaults.{IsShardFault}
-use Rattle.copy_window.specs.declared.fault.ShardFault.{ShardFault}
+use Rattle.slot_strobes.specs.copy_window.ShardFaults.{IsShardFault}
+use Rattle.slot_strobes.specs.copy_window.declared.fault.ShardFault.{ShardFault}
 use Rattle.window_faults.specs.Steps.{TakesNoFewer}
 use Rattle.window_faults.specs.Within.{IsWithin}
 use Rattle.window_faults.specs.declared.at.FaultAt.{FaultAt}

@@ -1,7 +1,7 @@
 -- A fault whose grading ended stays where the window begins.
 use Rattle.std.proofs.Common.{◌≡◌, ◌+◌, sym, subst, ◌∙◌, arith}
-use Rattle.copy_window.specs.ShardFaults.{IsShardFault}
-use Rattle.window_strobes.specs.Passed.{HasPassed}
+use Rattle.slot_strobes.specs.copy_window.ShardFaults.{IsShardFault}
+use Rattle.slot_strobes.specs.window_strobes.Passed.{HasPassed}
 use Rattle.window_faults.proofs.Steps.{takes-same}
 use Rattle.window_faults.proofs.Within.{none-end, within-there}
 use Rattle.window_faults.proofs.begin.begin_one.Goals as goal

@@ -1,10 +1,10 @@
 -- Over all slots, or over the first ones, or none.
 use Rattle.std.proofs.Common.{◌≡◌, ℕ, ◌+◌, ◌<◌, sym, subst, ◌∙◌, arith}
-use Rattle.window_strobes.proofs.Knowing.{design-rules}
-use Rattle.window_strobes.specs.Neighbours.{slots-within}
-use Rattle.window_strobes.specs.Passed.{HasPassed}
-use Rattle.window_strobes.specs.Strobes.{passed_behind}
-use Rattle.copy_window.specs.ShardFaults.{IsShardFault}
+use Rattle.slot_strobes.proofs.window_strobes.Knowing.{design-rules}
+use Rattle.slot_strobes.specs.window_strobes.Neighbours.{slots-within}
+use Rattle.slot_strobes.specs.window_strobes.Passed.{HasPassed}
+use Rattle.slot_strobes.specs.window_strobes.Strobes.{passed_behind}
+use Rattle.slot_strobes.specs.copy_window.ShardFaults.{IsShardFault}
 use Rattle.window_faults.proofs.Steps.{stays-open, steps-here}
 use Rattle.window_faults.proofs.Within.{is-listed, passed-to, within-there}
 use Rattle.window_faults.proofs.begin.pass_first.Goals as goal

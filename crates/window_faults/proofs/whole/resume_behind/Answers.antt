@@ -2,10 +2,10 @@
 use Rattle.std.proofs.Common.{◌≡◌, ℕ, ◌+◌, subst, sym, arith}
 use Rattle.std.specs.Prelude.{None}
 use Rattle.v_design.specs.Plain.{fault_of}
-use Rattle.copy_window.specs.Passing.{CanResume}
-use Rattle.graded_steps.specs.Behind.{RisesWithin}
-use Rattle.copy_window.specs.ShardFaults.{IsShardFault, steps_taken}
-use Rattle.window_strobes.specs.Strobes.{AreStrobesOf, passed_behind}
+use Rattle.slot_strobes.specs.copy_window.Passing.{CanResume}
+use Rattle.slot_strobes.specs.graded_steps.Behind.{RisesWithin}
+use Rattle.slot_strobes.specs.copy_window.ShardFaults.{IsShardFault, steps_taken}
+use Rattle.slot_strobes.specs.window_strobes.Strobes.{AreStrobesOf, passed_behind}
 use Rattle.window_faults.specs.Within.{StandsAfter}
 use Rattle.window_faults.proofs.Within.{can-go-on}
 use Rattle.window_faults.proofs.whole.resume_behind.Goals as goal

@@ -1,7 +1,7 @@
 -- A window that has this slot alone.
 use Rattle.std.proofs.Common.{◌+◌, arith}
 use Rattle.v_design.specs.Plain.{fault_of}
-use Rattle.window_strobes.specs.Neighbours.{slots-within}
+use Rattle.slot_strobes.specs.window_strobes.Neighbours.{slots-within}
 use Rattle.window_faults.proofs.Within.{can-go-on, stands-after}
 use Rattle.window_faults.proofs.whole.run_slot.Goals as goal
 

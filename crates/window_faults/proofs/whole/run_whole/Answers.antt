@@ -2,10 +2,10 @@
 use Rattle.std.proofs.Common.{◌≡◌, ℕ, ◌+◌, subst, ◌∙◌, arith}
 use Rattle.std.specs.Prelude.{None}
 use Rattle.v_design.specs.Plain.{fault_of}
-use Rattle.window_strobes.specs.Passed.{HasPassed}
-use Rattle.window_strobes.specs.Strobes.{passed_behind}
-use Rattle.graded_steps.specs.Behind.{RisesWithin}
-use Rattle.copy_window.specs.ShardFaults.{IsShardFault, steps_taken}
+use Rattle.slot_strobes.specs.window_strobes.Passed.{HasPassed}
+use Rattle.slot_strobes.specs.window_strobes.Strobes.{passed_behind}
+use Rattle.slot_strobes.specs.graded_steps.Behind.{RisesWithin}
+use Rattle.slot_strobes.specs.copy_window.ShardFaults.{IsShardFault, steps_taken}
 use Rattle.window_faults.proofs.Within.{stands-after, within-there}
 use Rattle.window_faults.proofs.whole.run_whole.Goals as goal
 

@@ -33,10 +33,10 @@ returns-clause-ended g c =
 pub returns-clause-stands : goal.returns-clause-stands
 returns-clause-stands g c =
     let s = c.self.inside in
-    all-stand g.N.World.design g.N.World.plan c.ends-self-inside.result c.in_ok-reached.reached.passed c.advance_all.new.faults.items
-    (went-on g.N.World.design g.N.World.plan s.gone c.args.window.now.through c.ends-self-inside.result s.reached c.in_ok-reached.reached s.numbers.items c.replace-numbers.result.items
-    s.faults.items c.replace-faults.result.items c.advance_all.new.faults.items c.self.invariant (c.ends-self-inside.ensures.number ∙ ap (λ (w : WindowKept). w.through) c.window-trace.ensures) (λ i. (c.replace-numbers.ensures.value i).items)
-    (λ i. (c.replace-faults.ensures.value i).items) c.in_ok-reached.ensures.faults c.in_ok-reached.ensures.reached).each
+    let shard = went-on g.N.World.design g.N.World.plan s.gone c.args.window.now.through c.ends-self-inside.result s.reached c.in_ok-reached.reached s.numbers.items c.replace-numbers.result.items
+    s.faults.items c.replace-faults.result.items c.advance_all.new.faults.items c.self.invariant (c.ends-self-inside.ensures.number ∙ ap (λ (w : WindowKept). w.through) c.window-trace.ensures)
+    (λ i. (c.replace-numbers.ensures.value i).items) (λ i. (c.replace-faults.ensures.value i).items) c.in_ok-reached.ensures.faults c.in_ok-reached.ensures.reached in
+    all-stand g.N.World.design g.N.World.plan c.ends-self-inside.result c.in_ok-reached.reached.passed c.advance_all.new.faults.items shard.judged shard.each
 
 pub returns-clause-ticks : goal.returns-clause-ticks
 returns-clause-ticks g c =

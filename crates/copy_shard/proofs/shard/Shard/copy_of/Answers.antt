@@ -2,7 +2,7 @@
 use Rattle.std.proofs.Common.{◌≡◌, List, map, ap, subst}
 use Rattle.std.specs.Prelude.{Contains, Some, slice_get}
 use Rattle.vf_base.specs.Base.{fault_number}
-use Rattle.shard_slots.specs.copy_window.declared.fault.ShardFault.{ShardFault}
+use Rattle.shard_windows.specs.copy_window.declared.fault.ShardFault.{ShardFault}
 use Rattle.copy_shard.specs.Kept.{fault_kept}
 use Rattle.copy_shard.specs.Shards.{FaultKept, ShardKept, places_of}
 use Rattle.copy_shard.proofs.Places.{place-copy}

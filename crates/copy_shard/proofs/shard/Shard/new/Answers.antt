@@ -1,7 +1,9 @@
 -- Before the first slot.
 use Rattle.std.proofs.Common.{sym, subst}
 use Rattle.copy_shard.specs.Kept.{IsShard}
-use Rattle.copy_shard.proofs.Starting.{is-shard, keeps-rules, reached_at_start, shard-seen}
+use Rattle.shard_windows.proofs.Through.{keeps-rules}
+use Rattle.shard_windows.proofs.Beginning.{reached_at_start}
+use Rattle.copy_shard.proofs.Starting.{is-shard, shard-seen}
 use Rattle.copy_shard.proofs.shard.Shard.new.Goals as goal
 
 pub invariant_of-result : goal.invariant_of-result

@@ -1,6 +1,6 @@
 -- What was told is gone.
 use Rattle.std.proofs.Common.{ap, ◌∙◌}
-use Rattle.moment_laws.specs.Steps.{untold}
+use Rattle.passed_blocks.specs.moment_laws.Steps.{untold}
 use Rattle.good_moment.proofs.Parts.{untold-is}
 use Rattle.good_moment.proofs.moment.GoodMoment.clear_told.Goals as goal
 

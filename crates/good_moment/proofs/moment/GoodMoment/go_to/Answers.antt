@@ -6,8 +6,8 @@ use Rattle.v_design.specs.Plain.{due_of}
 use Rattle.v_design.specs.declared.plan.Due.{Due}
 use Rattle.moment_parts.specs.Lanes.{lane_left}
 use Rattle.moment_parts.specs.Turned.{at_end_of_sleep, AreWokenWhere}
-use Rattle.moment_laws.specs.Begins.{HasSlot}
-use Rattle.moment_laws.specs.Shown.{IsWhole}
+use Rattle.passed_blocks.specs.moment_laws.Begins.{HasSlot}
+use Rattle.passed_blocks.specs.moment_laws.Shown.{IsWhole}
 use Rattle.good_moment.proofs.moment.GoodMoment.go_to.Goals as goal
 
 pub overflow_add-slot : goal.overflow_add-slot

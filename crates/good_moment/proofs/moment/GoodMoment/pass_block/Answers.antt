@@ -1,7 +1,7 @@
 -- What the window tells of the block, put together.
 use Rattle.std.proofs.Common.{◌≡◌, ◌<◌, get_or, length, sym, ap, subst, ◌∙◌, arith}
 use Rattle.vf_base.specs.Lists.{has}
-use Rattle.moment_laws.specs.Passing.{PassesBlock}
+use Rattle.passed_blocks.specs.moment_laws.Passing.{PassesBlock}
 use Rattle.passed_blocks.proofs.Joined.{told-there, block-to, window-untold, slot-untold, window-put, slot-put, take-there, passed-there}
 use Rattle.good_moment.proofs.moment.GoodMoment.pass_block.Goals as goal
 

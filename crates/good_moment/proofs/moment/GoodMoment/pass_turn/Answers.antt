@@ -7,9 +7,9 @@ use Rattle.v_design.specs.declared.plan.Due.{Due}
 use Rattle.process_code.specs.declared.state.ProcState.{ProcState as StateKept}
 use Rattle.moment_parts.specs.Lanes.{lane_left}
 use Rattle.moment_parts.specs.Turned.{at_postponed}
-use Rattle.moment_laws.specs.Passing.{TakesTurn}
-use Rattle.moment_laws.specs.Places.{IsShownAt}
-use Rattle.moment_laws.specs.Shown.{HasCounts}
+use Rattle.passed_blocks.specs.moment_laws.Passing.{TakesTurn}
+use Rattle.passed_blocks.specs.moment_laws.Places.{IsShownAt}
+use Rattle.passed_blocks.specs.moment_laws.Shown.{HasCounts}
 use Rattle.good_moment.specs.Kept.{kept_of}
 use Rattle.good_moment.proofs.Parts.{view-old}
 use Rattle.good_moment.proofs.Phases.{phase-fits}

@@ -6,10 +6,10 @@ use Rattle.good_trace.specs.SlotsTold.{AreWritesOf}
 use Rattle.trace_window.specs.Moments.{window_events}
 use Rattle.trace_window.specs.Writes.{Written, written_of, writes_from}
 use Rattle.moment_parts.specs.Within.{put_all, written_within, AreWoken}
-use Rattle.window_wakes.specs.declared.wake.Wake.{Wake}
-use Rattle.window_wakes.specs.Wakes.{WakeTold}
-use Rattle.moment_laws.specs.Shown.{MomentKept}
-use Rattle.moment_laws.specs.Steps.{woken_within, PutsBlock}
+use Rattle.passed_blocks.specs.window_wakes.declared.wake.Wake.{Wake}
+use Rattle.passed_blocks.specs.window_wakes.Wakes.{WakeTold}
+use Rattle.passed_blocks.specs.moment_laws.Shown.{MomentKept}
+use Rattle.passed_blocks.specs.moment_laws.Steps.{woken_within, PutsBlock}
 use Rattle.good_moment.specs.Kept.{kept_of}
 use Rattle.good_moment.proofs.Parts.{view-old, changes-rise, changes-within, mapped-objects, mapped-processes}
 use Rattle.good_moment.proofs.moment.GoodMoment.put_block.Goals as goal

@@ -2,7 +2,7 @@
 use Rattle.std.proofs.Common.{sym, subst}
 use Rattle.std.specs.Prelude.{OnOk}
 use Rattle.slot_record.specs.Records.{event_of}
-use Rattle.moment_laws.specs.Steps.{CanTake, Takes}
+use Rattle.passed_blocks.specs.moment_laws.Steps.{CanTake, Takes}
 use Rattle.good_moment.proofs.moment.GoodMoment.take.Goals as goal
 
 pub take_block-requires-clause-runs : goal.take_block-requires-clause-runs

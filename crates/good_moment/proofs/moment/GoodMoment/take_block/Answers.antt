@@ -8,9 +8,9 @@ use Rattle.v_design.specs.Grades.{Phase}
 use Rattle.between_slots.specs.Between.{window_phases}
 use Rattle.moment_parts.specs.Lanes.{lanes_left}
 use Rattle.moment_parts.specs.declared.lane.Lane.{Lane as LaneKept}
-use Rattle.moment_runs.specs.Taken.{AreRunsTaken, HaveRuns, HaveFewRuns, processes_of}
-use Rattle.moment_laws.specs.Shown.{processes_in}
-use Rattle.moment_laws.specs.Steps.{TakesRuns}
+use Rattle.passed_blocks.specs.moment_runs.Taken.{AreRunsTaken, HaveRuns, HaveFewRuns, processes_of}
+use Rattle.passed_blocks.specs.moment_laws.Shown.{processes_in}
+use Rattle.passed_blocks.specs.moment_laws.Steps.{TakesRuns}
 use Rattle.good_moment.specs.Kept.{kept_of}
 use Rattle.good_moment.proofs.Parts.{view-old, runs-told, has-own, runs-front, runs-long, phase-numbered, phase-bounds}
 use Rattle.good_moment.proofs.moment.GoodMoment.take_block.Goals as goal

@@ -3,9 +3,9 @@ use Rattle.std.proofs.Common.{◌≡◌, ◌<◌, length, refl, sym, subst, arit
 use Rattle.std.proofs.lemmas.List.{length-map}
 use Rattle.vf_base.specs.Base.{process_number}
 use Rattle.moment_parts.specs.Lanes.{lane_left}
-use Rattle.moment_laws.specs.Shown.{MomentKept}
+use Rattle.passed_blocks.specs.moment_laws.Shown.{MomentKept}
 use Rattle.good_moment.specs.Kept.{kept_of}
-use Rattle.moment_laws.specs.Steps.{TakesUpdate}
+use Rattle.passed_blocks.specs.moment_laws.Steps.{TakesUpdate}
 use Rattle.good_moment.proofs.Parts.{lane-put, view-old}
 use Rattle.good_moment.proofs.moment.GoodMoment.take_update.Goals as goal
 

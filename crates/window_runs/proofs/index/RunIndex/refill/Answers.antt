@@ -54,4 +54,5 @@ returns c = record {
       (subst (λ l. IsIndexOf (length c.args.self.now.places) l c.refill-2.new.self)
       (renumbered c.deref-2.result.now c.put_at_places.new.occurrences.items c.list_phases.new.occurrences.items c.args.runs.now c.deref-2.ensures.value c.put_at_places.ensures
       c.in_ok-list_phases.ensures) c.in_ok-refill-2.ensures.ok);
+  latest_are = c.in_ok-list_latest.ensures;
 }

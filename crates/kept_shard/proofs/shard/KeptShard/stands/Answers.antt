@@ -1,0 +1,25 @@
+-- What is kept stands by what the shard keeps.
+use Rattle.std.proofs.Common.{◌≤◌, subst}
+use Rattle.std.specs.Prelude.{sum_by}
+use Rattle.kept_shard.specs.Keeping.{KeepingShard, KeepsAll, StandsKept, full_steps_at, kept_steps_of, numbers_of}
+use Rattle.kept_shard.proofs.Standing.{all-kept, all-whole}
+use Rattle.kept_shard.proofs.Ticks.{all-within}
+use Rattle.kept_shard.proofs.shard.KeptShard.stands.Goals as goal
+
+pub returns-clause-kept : goal.returns-clause-kept
+returns-clause-kept g c =
+    let s = c.self.inside in
+    subst (StandsKept g.N.World.design g.N.World.plan) c.self.view_is
+    (all-kept c.good_run_goes_on.ensures c.strobed_gradings_go_on.ensures c.full_grades_reach.ensures g.N.World.design g.N.World.plan s.gone s.reached s.faults.items s.kept.items c.self.invariant)
+
+pub returns-clause-whole : goal.returns-clause-whole
+returns-clause-whole g c =
+    let s = c.self.inside in
+    subst (KeepsAll g.N.World.design g.N.World.plan) c.self.view_is
+    (all-whole c.good_run_goes_on.ensures c.strobed_gradings_go_on.ensures c.full_grades_reach.ensures g.N.World.design g.N.World.plan s.gone s.reached s.faults.items s.kept.items c.self.invariant)
+
+pub returns-clause-steps : goal.returns-clause-steps
+returns-clause-steps g c rules =
+    let s = c.self.inside in
+    subst (λ (shard : KeepingShard). kept_steps_of g.N.World.design g.N.World.plan shard ≤ sum_by (full_steps_at g.N.World.design g.N.World.plan) (numbers_of shard.kept)) c.self.view_is
+    (all-within c.good_run_goes_on.ensures g.N.World.design g.N.World.plan s.gone s.reached s.faults.items s.kept.items c.self.invariant c.gradings_take_steps.ensures)

@@ -1,0 +1,7 @@
+pub mod Keeping
+pub mod Kept
+pub use Rattle.shard_windows.specs as shard_windows
+pub use Rattle.shard_windows.specs.window_strobes as window_strobes
+pub use Rattle.shard_windows.specs.graded_steps as graded_steps
+pub use Rattle.shard_windows.specs.fault_grade as fault_grade
+pub use Rattle.shard_windows.specs.machine as machine

@@ -1,0 +1,3 @@
+mod Known
+mod Kept
+pub mod Untouched

@@ -1,0 +1,1 @@
+pub use Rattle.elaborate.proofs as elaborate
