@@ -73,8 +73,22 @@ fn are_due_alike<N: World>(
     Ok(true)
 }
 
+/// Of so many objects at least a copy keeps values where a slot is run whole for that.
+const MANY_KEPT: usize = 32;
+
+/// Whether a slot costs less where it is run whole, by how many of these objects a copy keeps values of: at each block of a fault's own all of them are gone over, and the blocks
+/// that touch them are about as many.
+fn is_far_apart(kept: usize, objects: usize) -> bool
+    ensures { result ≡ true → 32 ≤ kept }
+{
+    if kept < MANY_KEPT {
+        return false;
+    }
+    objects / kept < kept / 12
+}
+
 /// Whether a copy keeps no process's state, and updates that are due at the times of those that the good machine has pending before a slot of a window: so that the slot may
-/// be tried in lockstep.
+/// be tried in lockstep. A copy that keeps values of too many objects isn't let through, since the slot is run whole for less.
 ///
 /// # Errors
 ///
@@ -92,6 +106,10 @@ pub fn may_go<N: World>(
     ensures due { IfOk result (λ may. may ≡ true → AreDueAlike N.design N.plan (window.now.before + slot) copy.now.updates) }
 {
     if copy.next_state(ProcId(0)).is_some() {
+        return Ok(false);
+    }
+    let objects = setup.design().objects.as_slice().len();
+    if is_far_apart(copy.size(), objects) {
         return Ok(false);
     }
     let alike = are_due_alike(alloc, setup, window, slot, copy)?;

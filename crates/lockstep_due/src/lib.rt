@@ -1,7 +1,8 @@
 //! Whether a fault may be tried in lockstep through the next slot of a window (nonblocking updates by IEEE 1364-2001, clause 9.2.2).
 //!
 //! In lockstep a faulty machine has its slots, phases and turns where the good one has them. So what a copy keeps of pending updates has to be due at the times of those that
-//! the good machine has pending, and no process may be elsewhere than in the good machine. `may_go` asks for that; its main contract: where it says yes, it is so.
+//! the good machine has pending, and no process may be elsewhere than in the good machine. `may_go` asks for that; its main contract: where it says yes, it is so. It says no besides of a
+//! copy that keeps values of so many objects that the slot costs less where it is run whole.
 #![tactic(auto)]
 
 mod due;
