@@ -157,6 +157,7 @@ impl<N: World> GoodMoment<N> {
         ensures states { result.now.states.items ≡ self.now.states }
         ensures later { later_lists result.now.later.items ≡ self.now.later }
         ensures lanes { lanes_left result.now.lanes.items ≡ self.now.lanes }
+        ensures ran { result.now.ran.items ≡ self.now.ran }
     {
         &self.standing
     }
