@@ -1,0 +1,4 @@
+pub mod Runs
+pub mod Processes
+pub mod Phases
+pub mod Joined
