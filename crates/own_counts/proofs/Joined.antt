@@ -51,14 +51,14 @@ Part false false true = ⊥
 Part false false false = Unit {0}
 
 -- counts of runs, parted
-record Split (one other : List (Option ProcessRun × ProcessRun)) (counts : List ℕ) : Type 0 where
-  left : List ℕ
-  right : List ℕ
-  first : AllZip CountsOwn one left
-  rest : AllZip CountsOwn other right
-  total : sum counts ≡ sum left + sum right
+pub record Split (one other : List (Option ProcessRun × ProcessRun)) (counts : List ℕ) : Type 0 where
+  pub left : List ℕ
+  pub right : List ℕ
+  pub first : AllZip CountsOwn one left
+  pub rest : AllZip CountsOwn other right
+  pub total : sum counts ≡ sum left + sum right
 
-joined-zip : (xs ys : List (Option ProcessRun × ProcessRun)) (left right : List ℕ) → AllZip CountsOwn xs left → AllZip CountsOwn ys right → AllZip CountsOwn (xs ++ ys) (left ++ right)
+pub joined-zip : (xs ys : List (Option ProcessRun × ProcessRun)) (left right : List ℕ) → AllZip CountsOwn xs left → AllZip CountsOwn ys right → AllZip CountsOwn (xs ++ ys) (left ++ right)
 joined-zip [] ys [] right first rest = rest
 joined-zip [] ys (count ∷ left) right first rest = absurd first
 joined-zip (x ∷ xs) ys [] right first rest = absurd first
@@ -109,15 +109,6 @@ module _ (f : FirstSlot → List (Option ProcessRun × ProcessRun)) where
   split-slots all one other law (slot ∷ slots) counts zip =
       split-one (all slot) (one slot) (other slot) (law slot) slot (filter all slots) (filter one slots) (filter other slots) (split-slots all one other law slots) counts zip
 
-  split-bound : (all one other : FirstSlot → Bool) → ((slot : FirstSlot) → Part (all slot) (one slot) (other slot)) → (slots : List FirstSlot) (ticked more : ℕ) →
-      AtMostOwn (runs_in f (filter one slots)) ticked → AtMostOwn (runs_in f (filter other slots)) more → AtMostOwn (runs_in f (filter all slots)) (ticked + more)
-  split-bound all one other law slots ticked more low high counts zip =
-      let both = split-slots all one other law slots counts zip in
-      let first = low both.left both.first in
-      let rest = high both.right both.rest in
-      let total = both.total in
-      omega (arith, first, rest, total)
-
 -- Times
 
 lt-not : (one other : ℕ) → nat_lt one other ≡ not (nat_le other one)
@@ -142,10 +133,11 @@ part-of false false true true one other = tt
 part-of false false true false one other = tt
 part-of false false false e one other = tt
 
-joins-slots : (design : FlatDesign) (plan : TestPlan) (fault : StuckAt) (from between until : Option ℕ) (ticked more : ℕ) → IsByToo from between → IsByToo between until →
-    AtMostOwn (runs_between design plan from between fault) ticked → AtMostOwn (runs_between design plan between until fault) more → AtMostOwn (runs_between design plan from until fault) (ticked + more)
-joins-slots design plan fault from between until ticked more one other low high =
-    split-bound (slot_beside (good_machine design) (faulty_machine design fault) (first_run (good_machine design) plan.end))
+-- so counts of the runs of a stretch are parted
+pub stretch-splits : (design : FlatDesign) (plan : TestPlan) (fault : StuckAt) (from between until : Option ℕ) → IsByToo from between → IsByToo between until → (counts : List ℕ) →
+    AllZip CountsOwn (runs_between design plan from until fault) counts → Split (runs_between design plan from between fault) (runs_between design plan between until fault) counts
+stretch-splits design plan fault from between until one other =
+    split-slots (slot_beside (good_machine design) (faulty_machine design fault) (first_run (good_machine design) plan.end))
     (λ (slot : FirstSlot). (comes_after from slot.begins.time && comes_by until slot.begins.time) && nat_le slot.begins.time (fault_end design plan fault))
     (λ (slot : FirstSlot). (comes_after from slot.begins.time && comes_by between slot.begins.time) && nat_le slot.begins.time (fault_end design plan fault))
     (λ (slot : FirstSlot). (comes_after between slot.begins.time && comes_by until slot.begins.time) && nat_le slot.begins.time (fault_end design plan fault))
@@ -157,7 +149,16 @@ joins-slots design plan fault from between until ticked more one other low high 
     subst (λ (u : Bool). Part ((u && comes_by until time) && e) ((u && comes_by between time) && e) ((comes_after between time && comes_by until time) && e)) start
     (subst (λ (v : Bool). Part ((not (comes_by from time) && comes_by until time) && e) ((not (comes_by from time) && comes_by between time) && e) ((v && comes_by until time) && e)) middle
     (part-of (comes_by from time) (comes_by between time) (comes_by until time) e (one time) (other time))))
-    (first_run (faulty_machine design fault) plan.end) ticked more low high
+    (first_run (faulty_machine design fault) plan.end)
+
+joins-slots : (design : FlatDesign) (plan : TestPlan) (fault : StuckAt) (from between until : Option ℕ) (ticked more : ℕ) → IsByToo from between → IsByToo between until →
+    AtMostOwn (runs_between design plan from between fault) ticked → AtMostOwn (runs_between design plan between until fault) more → AtMostOwn (runs_between design plan from until fault) (ticked + more)
+joins-slots design plan fault from between until ticked more one other low high counts zip =
+    let both = stretch-splits design plan fault from between until one other counts zip in
+    let first = low both.left both.first in
+    let rest = high both.right both.rest in
+    let total = both.total in
+    omega (arith, first, rest, total)
 
 -- One slot, or none
 
