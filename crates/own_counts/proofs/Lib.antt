@@ -1,0 +1,7 @@
+pub mod Runs
+pub mod Processes
+pub mod Phases
+pub mod Joined
+pub mod Slots
+pub mod Numbers
+pub mod Twice
