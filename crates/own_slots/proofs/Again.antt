@@ -166,7 +166,7 @@ module _ (slots : OwnStepsOfSlots) (good faulty : Machine) (others : List Phase)
     ahead-parts process one tried more later is (first ∷ behind) rest are kept kept_later place =
         let same : first ≡ one = sym (ap (found_or first) (ap head_of are)) in
         let here =
-        kept-here (λ p. good_runs good p at.turn other) (λ p. 0) faulty number at.phase_begins at.events steps_grow runs_grow process is.left one behind place.process_is place.place
+        kept-here (λ p. good_runs good p at.turn other) (λ p. 0) faulty number at.phase_begins steps_grow runs_grow at.events process is.left one behind place.process_is place.place
         (subst (λ (t : TriedStep). KeepsBeside good faulty other at.turn number at.phase_begins at.events (Step process ∷ is.left) (t ∷ behind)) same kept) in
         record { kept = here.0; ahead = ahead-behind (Step process ∷ []) more later is tried behind rest here.1 kept_later (ap tail_of are) }
 

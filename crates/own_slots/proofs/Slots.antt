@@ -66,7 +66,7 @@ module _ (good faulty : Machine) (others : List Phase) where
   pub phases-join : (number : ℕ) (some others_behind : List Phase) (tried more : List TriedStep) → PhasesKeep good faulty others number some tried →
       PhasesKeep good faulty others (number + length some) others_behind more → PhasesKeep good faulty others number (some ++ others_behind) (tried ++ more)
   phases-join number [] behind tried more low high =
-      let same : number + length [] ≡ number = omega arith in
+      let same : number + length {A = Phase} [] ≡ number = omega arith in
       subst (λ (l : List TriedStep). PhasesKeep good faulty others number behind (l ++ more)) (sym low)
       (subst (λ (n : ℕ). PhasesKeep good faulty others n behind more) same high)
   phases-join number (phase ∷ some) behind tried more low high =
@@ -141,7 +141,7 @@ module _ (count : OwnStepsCount) (ticking : OwnStepsOfPhases) (good faulty : Mac
       KeepsBeside good faulty other turn number begins before events tried → OwnTicks good faulty other (record { turn = turn; begins = begins; events = before }) ticked →
       OwnTicks good faulty other (record { turn = turn; begins = begins; events = before ++ events }) (ticked + length tried)
   ticks-kept other turn number begins before [] [] ticked kept so_far =
-      let same : ticked ≡ ticked + length [] = omega arith in
+      let same : ticked ≡ ticked + length {A = TriedStep} [] = omega arith in
       subst (OwnTicks good faulty other (record { turn = turn; begins = begins; events = before ++ [] })) same
       (subst (λ (l : List Event). OwnTicks good faulty other (record { turn = turn; begins = begins; events = l }) ticked) (sym (append-nil before)) so_far)
   ticks-kept other turn number begins before [] (one ∷ tried) ticked kept so_far = absurd kept
