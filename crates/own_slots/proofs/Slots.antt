@@ -146,7 +146,7 @@ module _ (count : OwnStepsCount) (ticking : OwnStepsOfPhases) (good faulty : Mac
       (subst (λ (l : List Event). OwnTicks good faulty other (record { turn = turn; begins = begins; events = l }) ticked) (sym (append-nil before)) so_far)
   ticks-kept other turn number begins before [] (one ∷ tried) ticked kept so_far = absurd kept
   ticks-kept other turn number begins before (event ∷ events) [] ticked kept so_far =
-      subst (λ (l : List Event). OwnTicks good faulty other (record { turn = turn; begins = begins; events = l }) (ticked + length [])) (append_assoc before (event ∷ []) events)
+      subst (λ (l : List Event). OwnTicks good faulty other (record { turn = turn; begins = begins; events = l }) (ticked + length {A = TriedStep} [])) (append_assoc before (event ∷ []) events)
       (ticks-kept other turn number begins (before ++ event ∷ []) events [] ticked kept
       (ticking.later good faulty other (record { turn = turn; begins = begins; events = before }) (event ∷ []) ticked so_far))
   ticks-kept other turn number begins before (event ∷ events) (one ∷ tried) ticked (inl kept) so_far =
