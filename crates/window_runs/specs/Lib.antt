@@ -3,3 +3,4 @@ pub mod RunsByProcess
 pub mod Standing
 pub mod RunLaws
 pub mod Through
+pub mod OfPhase
