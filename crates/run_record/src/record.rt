@@ -135,11 +135,7 @@ fn no_runs(alloc: Global, processes: usize) -> Result<Vec<RunSoFar>, NoMemory>
 }
 
 /// The present run of a process goes on by a step.
-fn go_on_at(
-    runs: &mut Vec<RunSoFar>,
-    process: ProcId,
-    step: StepTaken,
-) -> Result<(), NoMemory>
+fn go_on_at(runs: &mut Vec<RunSoFar>, process: ProcId, step: StepTaken) -> Result<(), NoMemory>
     requires { process_number process < length runs.old.items }
     ensures { OnOk result (map so_far runs.new.items ≡ set (map so_far runs.old.items) (process_number process) (with_step step
         (get_or (map so_far runs.old.items) (process_number process) nothing_so_far))) }
