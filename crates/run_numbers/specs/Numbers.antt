@@ -19,6 +19,10 @@ own_more apart process = count_by (is_own process) apart
 abbrev pub good_more : List RunApart → ℕ → ℕ
 good_more apart process = count_by (is_good process) apart
 
+-- how often a process stands among some
+abbrev pub times_of : ℕ → List ℕ → ℕ
+times_of process others = count_by (λ (other : ℕ). nat_eq other process) others
+
 -- of each process two lists tell the same
 abbrev pub SameApart : List RunApart → List RunApart → Type 0
 SameApart one other = (process : ℕ) → own_more one process + good_more other process ≡ own_more other process + good_more one process
