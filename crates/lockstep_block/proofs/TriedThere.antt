@@ -14,7 +14,7 @@ use Rattle.machine_laws.specs.SlotLoop.{Moment, ComesTo, EventsGoOn, after_event
 use Rattle.copy_laws.specs.Beside.{AreFirst}
 use Rattle.good_runs.specs.Kept.{Keeps}
 use Rattle.good_runs.specs.declared.tried.TriedStep.{TriedStep}
-use Rattle.own_slots.specs.Kept.{OwnSoFar, OwnStepsKept}
+use Rattle.own_slots.specs.Slots.{OwnSoFar, TriedStepsGoOn, WereTried}
 
 -- where no step is left none is kept
 none-kept : (goods : ℕ → List ProcessRun) (numbers : ℕ → ℕ) (machine : Machine) (phase : ℕ) (begins : State) (before events : List Event) (tried : List TriedStep) → sum_by steps_of events ≡ 0 →
@@ -30,23 +30,16 @@ none-kept goods numbers machine phase begins before (event ∷ events) (step ∷
     let one : steps_of event ≡ 1 = ap steps_of keeps.0 in
     absurd (omega (arith, none, sum, one))
 
-module _ (good machine : Machine) (others : List Phase) (rules : KeepsRules machine.design) (go : EventsGoOn) (law : OwnStepsKept) where
+module _ (good machine : Machine) (others : List Phase) (rules : KeepsRules machine.design) (go : EventsGoOn) (law : TriedStepsGoOn) where
   -- the good runs of the phase that a moment is in
   abbrev pub goods_at : Moment → ℕ → List ProcessRun
   goods_at at process = good_runs good process at.turn (slice_get others (length at.ended))
 
-  -- up to some moment of the slot
-  pub record KeptTo (begins : State) (tried : List TriedStep) : Type 0 where
-    pub to : Moment
-    pub comes : ComesTo machine to
-    pub begins_is : to.begins ≡ begins
-    pub so_far : OwnSoFar good machine others to tried
-
   -- events of the first order, of which one step at most comes beyond those that a slot may have
   pub kept-to : (at : Moment) (events : List Event) (tried more : List TriedStep) → ComesTo machine at → AreFirst machine at.state events → at.steps + sum_by steps_of events ≤ most_steps + 1 →
-      OwnSoFar good machine others at tried → Keeps (goods_at at) (λ process. 0) machine (length at.ended) at.phase_begins at.events events more → KeptTo at.begins (tried ++ more)
+      OwnSoFar good machine others at tried → Keeps (goods_at at) (λ process. 0) machine (length at.ended) at.phase_begins at.events events more → WereTried good machine others at.begins (tried ++ more)
   kept-to at [] tried [] comes first few so_far keeps =
-      record { to = at; comes = comes; begins_is = refl; so_far = subst (OwnSoFar good machine others at) (sym (append-nil tried)) so_far }
+      record { to = at; comes = comes; begins_is = refl; own = subst (OwnSoFar good machine others at) (sym (append-nil tried)) so_far }
   kept-to at [] tried (step ∷ more) comes first few so_far keeps = absurd keeps
   kept-to at (event ∷ events) tried more comes first few so_far keeps = by (cases_lt at.steps (most_steps + 1)) more keeps
     where
@@ -57,13 +50,13 @@ module _ (good machine : Machine) (others : List Phase) (rules : KeepsRules mach
       next low = go machine at event rules comes (omega (arith, low)) first.0
 
       by : (at.steps < most_steps + 1) ⊎ (most_steps + 1 ≤ at.steps) → (more : List TriedStep) →
-          Keeps (goods_at at) (λ process. 0) machine (length at.ended) at.phase_begins at.events (event ∷ events) more → KeptTo at.begins (tried ++ more)
+          Keeps (goods_at at) (λ process. 0) machine (length at.ended) at.phase_begins at.events (event ∷ events) more → WereTried good machine others at.begins (tried ++ more)
       by (inl low) [] keeps =
-          kept-to (after_event machine event at) events tried [] (next low) first.1 (omega (arith, few, sum)) (law.none good machine others at (event ∷ []) tried so_far) keeps
+          kept-to (after_event machine event at) events tried [] (next low) first.1 (omega (arith, few, sum)) (law.passes good machine others at (event ∷ []) tried so_far) keeps
       by (inl low) (step ∷ more) (inl keeps) =
-          kept-to (after_event machine event at) events tried (step ∷ more) (next low) first.1 (omega (arith, few, sum)) (law.none good machine others at (event ∷ []) tried so_far) keeps
+          kept-to (after_event machine event at) events tried (step ∷ more) (next low) first.1 (omega (arith, few, sum)) (law.passes good machine others at (event ∷ []) tried so_far) keeps
       by (inl low) (step ∷ more) (inr keeps) =
-          subst (KeptTo at.begins) (append_assoc tried (step ∷ []) more)
+          subst (WereTried good machine others at.begins) (append_assoc tried (step ∷ []) more)
           (kept-to (after_event machine event at) events (tried ++ step ∷ []) more (next low) first.1 (omega (arith, few, sum))
           (law.goes good machine others at (event ∷ []) tried (step ∷ []) so_far (inr (keeps.0, keeps.1, tt))) keeps.2)
       by (inr past) more keeps =
@@ -72,5 +65,5 @@ module _ (good machine : Machine) (others : List Phase) (rules : KeepsRules mach
             to = at;
             comes = comes;
             begins_is = refl;
-            so_far = subst (λ (l : List TriedStep). OwnSoFar good machine others at (tried ++ l)) (sym none) (subst (OwnSoFar good machine others at) (sym (append-nil tried)) so_far);
+            own = subst (λ (l : List TriedStep). OwnSoFar good machine others at (tried ++ l)) (sym none) (subst (OwnSoFar good machine others at) (sym (append-nil tried)) so_far);
           }

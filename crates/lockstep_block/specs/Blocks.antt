@@ -4,9 +4,9 @@ use Rattle.v_design.specs.Designs.{FlatDesign, StuckAt, TestPlan, good_machine, 
 use Rattle.v_design.specs.Grades.{Phase, phases}
 use Rattle.v_design.specs.Runs.{FirstSlot}
 use Rattle.v_design.specs.States.{State}
-use Rattle.machine_laws.specs.SlotLoop.{Moment, ComesTo, present_phase}
+use Rattle.machine_laws.specs.SlotLoop.{Moment, present_phase}
 use Rattle.own_counts.specs.Slots.{NumbersAre}
-use Rattle.own_slots.specs.Kept.{OwnSoFar}
+use Rattle.own_slots.specs.Slots.{OwnSoFar, WereTried}
 use Rattle.run_numbers.specs.Numbers.{good_more, own_more}
 use Rattle.run_numbers.specs.declared.numbers.RunApart.{RunApart}
 use Rattle.good_runs.specs.declared.tried.TriedStep.{TriedStep}
@@ -38,9 +38,6 @@ pub record FaultGoes (design : FlatDesign) (plan : TestPlan) (fault : StuckAt) (
   pub so_far : OwnSoFar (good_machine design) (faulty_machine design fault) (phases (good_machine design) slot) at tried
   pub beside : IsPhaseBeside design fault place at apart
 
--- these are own steps that a faulty machine takes in a slot up to some moment of it
-pub record TriedInSlot (design : FlatDesign) (fault : StuckAt) (slot : FirstSlot) (begins : State) (tried : List TriedStep) : Type 0 where
-  pub to : Moment
-  pub comes : ComesTo (faulty_machine design fault) to
-  pub begins_is : to.begins ≡ begins
-  pub so_far : OwnSoFar (good_machine design) (faulty_machine design fault) (phases (good_machine design) slot) to tried
+-- these are steps that a faulty machine took itself in a slot, up to some moment of it
+abbrev pub TriedInSlot : FlatDesign → StuckAt → FirstSlot → State → List TriedStep → Type 0
+TriedInSlot design fault slot begins tried = WereTried (good_machine design) (faulty_machine design fault) (phases (good_machine design) slot) begins tried
