@@ -5,6 +5,7 @@ use Rattle.v_design.specs.Grades.{Phase, phases}
 use Rattle.v_design.specs.Runs.{FirstSlot}
 use Rattle.v_design.specs.States.{State}
 use Rattle.machine_laws.specs.SlotLoop.{Moment, present_phase}
+use Rattle.phase_blocks.specs.Blocks.{IsBetweenRuns}
 use Rattle.own_counts.specs.Slots.{NumbersAre}
 use Rattle.own_slots.specs.Slots.{OwnSoFar, WereTried}
 use Rattle.run_numbers.specs.Numbers.{good_more, own_more}
@@ -21,11 +22,12 @@ use Rattle.race_notes.specs.Notes.{NotesKept}
 abbrev pub passed_phase : Place → Phase
 passed_phase place = record place.phase { events = place.passed }
 
--- the faulty machine is in a phase of its slot that begins with a turn of the same kind as the good machine's of that number; of each process as many runs ended in it as in that one so far, but for those
--- that one machine alone ended
+-- the faulty machine is, between runs, in a phase of its slot that begins with a turn of the same kind as the good machine's of that number; of each process as many runs ended in it as in that one so
+-- far, but for those that one machine alone ended
 pub record IsPhaseBeside (design : FlatDesign) (fault : StuckAt) (place : Place) (at : Moment) (apart : List RunApart) : Type 0 where
   pub number_is : length at.ended ≡ length place.ended
   pub turn_is : at.turn ≡ place.phase.turn
+  pub between : IsBetweenRuns (faulty_machine design fault) at.phase_begins at.events
   pub numbers : NumbersAre (good_machine design) (faulty_machine design fault) (passed_phase place) (present_phase at) (own_more apart) (good_more apart)
 
 -- at a place and a moment of a window a faulty machine goes in lockstep with what is kept of it; of the process steps that it has taken in the slot these were taken by itself, all others as the good machine
