@@ -18,3 +18,4 @@ pub mod TurnedLaws
 pub mod CodesAt
 pub mod PutLaws
 pub mod Replaced
+pub mod Known
