@@ -31,19 +31,19 @@ fn take_own_block<N: World, L: Ledger>(
     one: &mut FaultInSlot,
     steps: &mut Steps<L>,
 ) -> Result<bool, NoMemory>
-    requires run { MayRunOwn N.design N.plan (fault_of fault) window.now.before window.now.through room.old.runner room.old.before room.old.behind room.old.counts one.old.notes one.old.own one.old.spare one.old.ticked }
+    requires run { MayRunOwn N.design N.plan (fault_of fault) window.now.before window.now.through room.old.runner room.old.before room.old.behind room.old.counts one.old.notes one.old.own one.old.spare one.old.tried.items one.old.apart.items }
     ensures took { IfOk result (λ goes. goes ≡ true →
         (of : MayRunOwn N.design N.plan (fault_of fault) window.now.before window.now.through room.old.runner room.old.before room.old.behind room.old.counts one.old.notes one.old.own
-        one.old.spare one.old.ticked) →
+        one.old.spare one.old.tried.items one.old.apart.items) →
         TookOwn N.design N.plan (fault_of fault) window.now.before window.now.through room.old.runner room.old.before room.old.behind room.old.counts one.old.notes one.old.own one.old.spare
-        one.old.ticked of room.new.runner room.new.before room.new.behind room.new.told one.new.notes one.new.own one.new.spare one.new.ticked) }
+        one.old.tried.items one.old.apart.items of room.new.runner room.new.before room.new.behind room.new.told one.new.notes one.new.own one.new.spare one.new.tried.items one.new.apart.items) }
     ensures fault { IfOk result (λ goes. goes ≡ true → one.new.own.copy.fault ≡ one.old.own.copy.fault) }
     ensures states { IfOk result (λ goes. goes ≡ true → one.new.own.copy.states ≡ one.old.own.copy.states) }
     ensures room { OnOk result (RoomTakes (fault_of fault) room.old.before room.old.behind room.old.counts room.old.runner room.new.before room.new.behind room.new.counts room.new.runner) }
-    ensures ticks { OnOk result (RisesWithin one.old.ticked one.new.ticked steps.old steps.new) }
+    ensures ticks { OnOk result (RisesWithin (length one.old.tried.items) (length one.new.tried.items) steps.old steps.new) }
     ensures most { OnOk result (
         (of : MayRunOwn N.design N.plan (fault_of fault) window.now.before window.now.through room.old.runner room.old.before room.old.behind room.old.counts one.old.notes one.old.own
-        one.old.spare one.old.ticked) → one.new.ticked ≤ process_steps (slot_from (faulty_machine N.design (fault_of fault)) of.begins)) }
+        one.old.spare one.old.tried.items one.old.apart.items) → TriedInSlot N.design (fault_of fault) of.slot of.begins one.new.tried.items) }
 {
     copy_laws::own_runs();
     race_laws::writes_stay();
@@ -113,20 +113,20 @@ pub fn run_own_block<N: World, L: Ledger>(
     one: &mut FaultInSlot,
     steps: &mut Steps<L>,
 ) -> Result<bool, NoMemory>
-    requires run { MayRunOwn N.design N.plan (fault_of fault) window.now.before window.now.through room.old.runner room.old.before room.old.behind room.old.counts one.old.notes one.old.own one.old.spare one.old.ticked }
+    requires run { MayRunOwn N.design N.plan (fault_of fault) window.now.before window.now.through room.old.runner room.old.before room.old.behind room.old.counts one.old.notes one.old.own one.old.spare one.old.tried.items one.old.apart.items }
     ensures goes { IfOk result (λ goes. goes ≡ true →
         (of : MayRunOwn N.design N.plan (fault_of fault) window.now.before window.now.through room.old.runner room.old.before room.old.behind room.old.counts one.old.notes one.old.own
-        one.old.spare one.old.ticked) →
+        one.old.spare one.old.tried.items one.old.apart.items) →
         FaultGoes N.design N.plan (fault_of fault) of.slot of.begins window.now.before window.now.through room.old.behind.moment (behind_events of.block of.rest of.place)
-        one.new.notes one.new.own one.new.spare one.new.ticked) }
+        one.new.notes one.new.own one.new.spare one.new.tried.items one.new.apart.items) }
     ensures fault { IfOk result (λ goes. goes ≡ true → one.new.own.copy.fault ≡ one.old.own.copy.fault) }
     ensures states { IfOk result (λ goes. goes ≡ true → one.new.own.copy.states ≡ one.old.own.copy.states) }
     ensures state { IfOk result (λ goes. goes ≡ true → state_of room.new.runner ≡ state_of room.old.runner) }
     ensures room { OnOk result (RoomStays room.old.before room.old.behind room.old.counts room.old.runner room.new.before room.new.behind room.new.counts room.new.runner) }
-    ensures ticks { OnOk result (RisesWithin one.old.ticked one.new.ticked steps.old steps.new) }
+    ensures ticks { OnOk result (RisesWithin (length one.old.tried.items) (length one.new.tried.items) steps.old steps.new) }
     ensures most { OnOk result (
         (of : MayRunOwn N.design N.plan (fault_of fault) window.now.before window.now.through room.old.runner room.old.before room.old.behind room.old.counts one.old.notes one.old.own
-        one.old.spare one.old.ticked) → one.new.ticked ≤ process_steps (slot_from (faulty_machine N.design (fault_of fault)) of.begins)) }
+        one.old.spare one.old.tried.items one.old.apart.items) → TriedInSlot N.design (fault_of fault) of.slot of.begins one.new.tried.items) }
 {
     if !take_own_block(alloc, setup, window, room, fault, one, steps)? {
         room.runner.set_fault(None);

@@ -19,7 +19,7 @@ use Rattle.process_table.specs.declared.row.Row.{Row}
 use Rattle.process_table.specs.declared.table.ProcessTable.{ProcessTable}
 use Rattle.process_table.specs.declared.deed.Stepped.{Stepped}
 use Rattle.process_table.specs.Arranged.{IsKept, IsTable, HasStage, processes_of, table_of, later_by, held_so, stage_holding}
-use Rattle.process_table.specs.Deeds.{IsStepOf, read_by, written_by, read_said, written_said}
+use Rattle.process_table.specs.Deeds.{IsStepOf, read_of, read_by, written_by, read_said, written_said}
 use Rattle.process_table.specs.Known.{IsKnownStep, read_told, written_told, later_told}
 use Rattle.process_table.specs.Puts.{PutsState}
 use Rattle.process_table.specs.Rows.{RowState, row_states, row_text, state_at, text_at, step_from, step_at, RowsChange, StepsRows}
@@ -47,6 +47,12 @@ told-read now (ReadsObject object) = refl
 told-read now (WritesObject update) = refl
 told-read now (AppendsUpdate delay update) = refl
 told-read now TouchesNothing = refl
+
+pub told-action : (now : ℕ) (action : Action) → read_told (act_of now action) ≡ read_of action
+told-action now (ReadsObject object) = refl
+told-action now (WritesObject update) = refl
+told-action now (AppendsUpdate delay update) = refl
+told-action now TouchesNothing = refl
 
 told-written : (now : ℕ) (action : Action) → written_told (act_of now action) ≡ written_said (said_of now action Done)
 told-written now (ReadsObject object) = refl

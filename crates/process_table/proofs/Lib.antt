@@ -19,3 +19,4 @@ pub mod CodesAt
 pub mod PutLaws
 pub mod Replaced
 pub mod Known
+pub mod Readings

@@ -1,17 +1,17 @@
 // A step of a process that is known before it is taken.
 
-ghost use Rattle.std.specs.Prelude.{◌≡◌, ◌<◌, true, length, IfOk, IfSome};
+ghost use Rattle.std.specs.Prelude.{◌≡◌, ◌<◌, ℕ, true, length, IfOk, IfSome};
 ghost use Rattle.std.specs.Option.{option_map, option_to_list};
 ghost use Rattle.vf_base.specs.Base.{process_number};
 ghost use Rattle.v_design.specs.Designs.{Machine};
 ghost use Rattle.v_design.specs.Plain.{due_of};
-ghost use Rattle.v_design.specs.States.{State, is_ready};
+ghost use Rattle.v_design.specs.States.{State, is_ready, step_of};
 ghost use Rattle.process_code.specs.RunEnds.{act_by};
 ghost use Rattle.process_code.specs.StatesOf.{IsStateOf};
 ghost use Rattle.process_code.specs.declared.code.Code.{Code};
 ghost use Rattle.run_ends.specs.RunEnds.{IsCodeAt};
 ghost use Rattle.process_table.specs.Tables.{IsTableOf, process_in};
-ghost use Rattle.process_table.specs.Deeds.{IsStepOf, read_by, written_by};
+ghost use Rattle.process_table.specs.Deeds.{IsStepOf, read_by, read_of, written_by};
 ghost use Rattle.process_table.specs.Known.{IsKnownStep, IsStepKnown, read_told, written_told, later_told};
 ghost use Rattle.process_table.specs.Arranged.{IsKept, table_of};
 
@@ -66,7 +66,6 @@ impl<'d> ProcessTable<'d> {
         requires ready { is_ready (process_in (table_of self.old) (process_number process)).activity ≡ true }
         requires stands { (code : Code) → IsCodeAt (table_of self.old).design (process_number process) code → IsStateOf code next.now }
         requires known { IsStepKnown (table_of self.old) (process_number process) line act next.now }
-        requires reads { IfSome (read_told (act_by act)) (λ object. object < length (table_of self.old).design.objects) }
         ensures step { IfOk result (λ stepped. (machine : Machine) (state : State) → IsTableOf machine state (table_of self.old) →
             IsKnownStep machine state (process_number process) line act next.now → IsStepOf machine state (process_number process) stepped (table_of self.new)) }
         ensures reads { IfOk result (λ stepped. IfSome (read_by stepped.act) (λ object. object < length (table_of self.old).design.objects)) }
@@ -85,4 +84,22 @@ impl<'d> ProcessTable<'d> {
             ready: standing.ready,
         })
     }
+
+    /// What a process reads next, if it reads, is an object of the design.
+    ///
+    /// It does nothing when it runs.
+    pub fn reads_are_there(&self)
+        requires { IsKept self.now }
+        ensures { (machine : Machine) (state : State) → IsTableOf machine state (table_of self.now) → (process : ℕ) →
+            IfSome (read_of (step_of machine state process).action) (λ object. object < length (table_of self.now).design.objects) }
+    {}
+
+    /// A process has a code.
+    ///
+    /// It does nothing when it runs.
+    pub fn has_code(&self, process: ProcId)
+        requires kept { IsKept self.now }
+        requires number { process_number process < length (table_of self.now).processes }
+        ensures { (code : Code) × IsCodeAt (table_of self.now).design (process_number process) code }
+    {}
 }

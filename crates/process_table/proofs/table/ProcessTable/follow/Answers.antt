@@ -1,5 +1,5 @@
 -- The known step is the next one of the row, which comes to stand behind it.
-use Rattle.std.proofs.Common.{◌∙◌, ◌<◌, ℕ, length, subst, sym, refl, arith}
+use Rattle.std.proofs.Common.{◌∙◌, ◌<◌, ℕ, length, subst, sym, ap, refl, arith}
 use Rattle.std.specs.Prelude.{Option, IfSome}
 use Rattle.vf_base.specs.Base.{process_number}
 use Rattle.v_design.specs.PlainDesigns.{design_of}
@@ -11,7 +11,10 @@ use Rattle.process_table.proofs.Changed.{rows-length, holding-at}
 use Rattle.process_table.proofs.CodesAt.{row-there, code-at}
 use Rattle.process_table.proofs.EachChanged.{as-many}
 use Rattle.process_table.proofs.TableCalls.{count-ready, count-queue, ready-free}
-use Rattle.process_table.proofs.Known.{ready-row, low, known-table, known-step}
+use Rattle.process_table.specs.Known.{read_told}
+use Rattle.v_design.specs.States.{step_of}
+use Rattle.process_table.proofs.Known.{ready-row, low, known-table, known-step, told-action}
+use Rattle.process_table.proofs.Readings.{reads-there}
 use Rattle.process_table.proofs.table.ProcessTable.follow.Goals as goal
 
 pub put_state-requires-clause-number : goal.put_state-requires-clause-number
@@ -80,4 +83,9 @@ returns-clause-kept c =
     c.standing_of-standing.ensures (low t c.requires.kept p c.requires.ready) c.mark.ensures c.later_known-later.ensures c.in_ok-hold_one.ensures
 
 pub returns-clause-reads : goal.returns-clause-reads
-returns-clause-reads c = subst (λ (r : Option ℕ). IfSome r (λ object. object < length (design_of c.args.self.now.design.now).objects)) (sym c.act_known.ensures.read) c.requires.reads
+returns-clause-reads c =
+    let t = c.args.self.now in
+    let known = c.requires.known in
+    let Reads : Option ℕ → Type 0 = λ (read : Option ℕ). IfSome read (λ (object : ℕ). object < length (design_of t.design.now).objects) in
+    subst Reads (sym (c.act_known.ensures.read ∙ ap read_told known.step.act ∙ told-action known.state.time (step_of known.machine known.state (process_number c.args.process)).action))
+    (reads-there t c.requires.kept known.machine known.state known.of (process_number c.args.process))
