@@ -21,11 +21,14 @@ use Rattle.run_ends.specs.RunEnds.{IsCodeAt, step_told, steps_told, told_of}
 use Rattle.copy_laws.specs.OwnRuns.{OwnRunsCount}
 use Rattle.copy_laws.specs.SharedRuns.{AreStepsFrom, activity_after, activity_at_end, read-next, step_from, with_read}
 use Rattle.copy_overlay.specs.Statuses.{AllCount, IsFollowing, gone_on}
-use Rattle.copy_overlay.specs.StatusLaws.{alone-counts, begun-counts, follows-no_more, same-seen}
+use Rattle.copy_overlay.specs.StatusLaws.{alone-counts, begun-counts, follows-no_more}
 use Rattle.process_table.specs.Known.{IsKnownStep}
 use Rattle.known_steps.specs.Known.{IsKnownAt, PartsAt, HasEnded, ReadsOther, ReadsAlike, read_now, stands_behind}
 use Rattle.known_steps.specs.Beside.{FollowsSoFar, IsInRun, KnownStepsGoOn, TellsRunHere, run_behind}
 use Rattle.known_steps.proofs.Told.{all-at, end-push, kept-at, read-told, step-behind, text-step, told-at, told-none}
+
+same-seen : (seen other : StepSeen) → seen.step ≡ other.step → seen.read ≡ other.read → seen ≡ other
+same-seen seen other step read = λ i. record { step = step i; read = read i }
 
 -- The runs of the good machine
 
@@ -55,7 +58,7 @@ module _ (machine : Machine) (state : State) (process : ℕ) (good : ProcessRun)
   first-told code one (seen ∷ steps) is =
       ap (λ (told : StepTold). told.stands) (sym (same_Some (step_told state.time good.begins seen) (step_told_by code one) is))
 
-  pub first : (one : StepTaken) → slice_get found.steps 0 ≡ Some one → (code : Code) → IsCodeAt machine.design process code → (activity_of code one.state ≡ good.begins) × IsStateOf code one.state
+  first : (one : StepTaken) → slice_get found.steps 0 ≡ Some one → (code : Code) → IsCodeAt machine.design process code → (activity_of code one.state ≡ good.begins) × IsStateOf code one.state
   first one at code is = (
     first-told code one good.steps (kept-at (step_told_by code) found.steps (steps_told state.time good.begins good.steps) 0 (told-steps code is) ∙ ap (option_map (step_told_by code)) at),
     all-at (λ (step : StepTaken). IsStateOf code step.state) found.steps 0 one (tells.stand code is).1 at,
@@ -189,12 +192,11 @@ module _ (machine : Machine) (state : State) (process : ℕ) (good : ProcessRun)
               ∙ sym (append_assoc run.steps (seen ∷ []) n.rest);
         }
 
-    pub known : (line : ℕ) (act : StepAct) (next : ProcState) → IsKnownAt state.values found (length run.steps) line act next →
+    known : (line : ℕ) (act : StepAct) (next : ProcState) → IsKnownAt state.values found (length run.steps) line act next →
         IsKnownStep machine state process line act next × ((code : Code) → IsCodeAt machine.design process code → IsStateOf code next) ×
         FollowsSoFar (Some good) (run_behind machine state process run)
     known line act next is =
-        let n = next-of is.one follows.later refl is.at in
-        (
+        let n = next-of is.one follows.later refl is.at in (
           record {
             line = is.line ∙ n.line ∙ ap (λ (s : ProcessStep). s.line) n.step;
             act = ap act_by is.act ∙ acts is.one is.at;
@@ -223,7 +225,7 @@ module _ (machine : Machine) (state : State) (process : ℕ) (good : ProcessRun)
         later (told-here tells.code tells.is_code (length run.steps)) ∙ ap (option_map (step_told_by tells.code)) at in
         absurd (let clash : Some (step_told state.time (activity_at_end run.begins run.steps) other) ≡ None = sym (told-at state.time run.begins run.steps other rest) ∙ told in cc)
 
-    pub parts : OwnRunsCount → PartsAt state.values found (length run.steps) → AllCount (Some good) (run_behind machine state process run)
+    parts : OwnRunsCount → PartsAt state.values found (length run.steps) → AllCount (Some good) (run_behind machine state process run)
     parts counts (HasEnded at) = longer follows.later refl at
     parts counts (ReadsOther one at differs) =
         let n = next-of one follows.later refl at in

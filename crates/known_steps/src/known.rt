@@ -42,6 +42,18 @@ fn reads_alike<V: Values>(values: &V, step: &StepTaken) -> bool
     same_read(read, step.read)
 }
 
+/// The step of a place in a run, if it has one.
+fn step_at<'r>(run: &'r RunEnd, place: usize) -> Option<&'r StepTaken>
+    ensures { option_map (λ step. step.now) result ≡ slice_get run.now.steps place }
+{
+    let steps = run.steps.as_slice();
+    if place < steps.len() {
+        Some(&steps[place])
+    } else {
+        None
+    }
+}
+
 /// Where the process stands behind the step of a place in a run.
 fn stands_behind<'r>(run: &'r RunEnd, place: usize) -> &'r ProcState
     requires { place < length run.now.steps }
@@ -55,15 +67,11 @@ fn stands_behind<'r>(run: &'r RunEnd, place: usize) -> &'r ProcState
 
 /// The step of a place in a run that has ended, if another process in the midst of a run would take it there too: none where the run has no such step, or where it read another value
 /// there than is to be read now.
-pub fn known_step<'r, V: Values>(
-    run: &'r RunEnd,
-    place: usize,
-    values: &V,
-) -> Option<KnownStep<'r>>
+pub fn known_step<'r, V: Values>(run: &'r RunEnd, place: usize, values: &V) -> Option<KnownStep<'r>>
     requires { (one : Taken) → slice_get run.now.steps place ≡ Some one → IfSome (read_told (act_by one.act)) (λ object. object < length (V.values values.now)) }
     ensures { MatchOption result (PartsAt (V.values values.now) run.now place) (λ known. IsKnownAt (V.values values.now) run.now place known.line known.act known.next.now) }
 {
-    let Some(step) = run.steps.as_slice().get(place) else {
+    let Some(step) = step_at(run, place) else {
         return None;
     };
     let alike = reads_alike(values, step);
