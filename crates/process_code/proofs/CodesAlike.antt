@@ -1,5 +1,5 @@
 -- Codes of one process have one layout, and a state rests on nothing else of its code.
-use Rattle.std.proofs.Common.{◌≡◌, ℕ, List, [], map, sym, ap, ◌∙◌, subst}
+use Rattle.std.proofs.Common.{◌≡◌, ℕ, List, [], ◌∷◌, map, refl, sym, ap, ◌∙◌, subst}
 use Rattle.four_value.specs.Values.{LogicValue}
 use Rattle.v_design.specs.Plain.{statement_of, process_of, due_of, update_of}
 use Rattle.v_design.specs.Trees.{Statement}
@@ -14,7 +14,7 @@ use Rattle.process_code.specs.Points.{Point, IsStep, point_of, activity_at, acti
 use Rattle.process_code.specs.SamenessLaws.{activity-same}
 use Rattle.process_code.specs.StatesOf.{IsStateOf, IsRestAt, StepsAsDefined}
 use Rattle.process_code.specs.Reached.{IsReached}
-use Rattle.process_code.specs.RunEnds.{RunTold}
+use Rattle.process_code.specs.RunEnds.{StepTold, act_by, step_told_by}
 use Rattle.process_code.specs.OneCode.{AreCodesOfOne, CodesReadAlike, CodesCompareAlike, CodesStepAlike}
 use Rattle.process_code.proofs.Apart.{same-activity}
 use Rattle.process_code.specs.declared.code.Code.{Code}
@@ -22,6 +22,7 @@ use Rattle.process_code.specs.declared.state.Did.{Did}
 use Rattle.process_code.specs.declared.state.Stage.{Stage}
 use Rattle.process_code.specs.declared.state.Stage.TheVariants.{Ready, Waiting, Asleep, Postponed, Done}
 use Rattle.process_code.specs.declared.state.ProcState.{ProcState}
+use Rattle.process_code.specs.declared.state.StepTaken.{StepTaken}
 
 -- Codes
 
@@ -57,6 +58,11 @@ steps-alike one other now values old new did c h =
     let Q : FlatProcess → Type 0 = λ p. P p (rests_in_code other) in
     subst Q c.same (subst R (rests-alike one other c) h)
 
+told-alike : (one other : Code) (steps : List StepTaken) → AreCodesOfOne one other → map (step_told_by one) steps ≡ map (step_told_by other) steps
+told-alike one other [] c = refl
+told-alike one other (step ∷ steps) c =
+    λ i. record { stands = activity-alike one other step.state c i; line = step.line; act = act_by step.act; read = step.read } ∷ told-alike one other steps c i
+
 pub codes_read_alike : CodesReadAlike
 codes_read_alike one other c =
     record {
@@ -65,7 +71,12 @@ codes_read_alike one other c =
       activity = λ state. activity-alike one other state c;
       states = λ state. states-alike one other state c;
       steps = λ now values old new did. steps-alike one other now values old new did c;
-      told = λ run. ap (λ activity. let t : RunTold = record { activity = activity; later = map due_of run.later; writes = map update_of run.writes } in t) (activity-alike one other run.state c);
+      told = λ run. λ i. record {
+        activity = activity-alike one other run.state c i;
+        later = map due_of run.later;
+        writes = map update_of run.writes;
+        steps = told-alike one other run.steps c i;
+      };
     }
 
 -- States

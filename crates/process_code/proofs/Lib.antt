@@ -9,3 +9,4 @@ pub mod Apart
 pub mod CodesAlike
 pub mod FirstLines
 pub mod ReadsThere
+pub mod StepsCopied

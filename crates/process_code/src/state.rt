@@ -50,7 +50,29 @@ pub enum Did {
     Inner,
 }
 
-/// A process run at its end: its phase, its process, where the process stands then, the updates that the run appended, and those that it wrote, in order.
+/// What a step of a process run did.
+#[derive(Clone, Copy, Debug)]
+pub enum StepAct {
+    /// It read an object.
+    Read(ObjectId),
+    /// It wrote some bits of an object.
+    Write(Update),
+    /// It appended an update that is due at a time.
+    Append(Due),
+    /// It touched no object.
+    Inner,
+}
+
+/// A step of a process run: the line of its statement, what it did, the value that it read, if it read one, and where the process stood before it.
+#[derive(Drop)]
+pub struct StepTaken {
+    pub line: u32,
+    pub act: StepAct,
+    pub read: Option<Vec4>,
+    pub state: ProcState,
+}
+
+/// A process run at its end: its phase, its process, where the process stands then, the updates that the run appended, those that it wrote, and its steps, in order.
 #[derive(Drop)]
 pub struct RunEnd {
     pub phase: u32,
@@ -58,4 +80,5 @@ pub struct RunEnd {
     pub state: ProcState,
     pub later: Seq<Due>,
     pub writes: Seq<Update>,
+    pub steps: Seq<StepTaken>,
 }

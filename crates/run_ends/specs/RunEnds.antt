@@ -8,13 +8,14 @@ use Rattle.v_design.specs.Designs.{FlatDesign, Machine}
 use Rattle.v_design.specs.Plain.{process_of}
 use Rattle.v_design.specs.States.{State, Event, Step, LaneStep, Evaluation, NetUpdate, after, step_of, is_ready}
 use Rattle.v_design.specs.Grades.{Phase}
-use Rattle.v_design.specs.OwnSteps.{ProcessRun, process_runs}
+use Rattle.v_design.specs.OwnSteps.{StepSeen, ProcessRun, process_runs}
+use Rattle.v_design.specs.Processes.{Activity}
 use Rattle.process_code.specs.Codes.{IsCodeOf}
 use Rattle.process_code.specs.StatesOf.{IsStateOf}
-use Rattle.process_code.specs.RunEnds.{RunTold, told_by}
+use Rattle.process_code.specs.RunEnds.{RunTold, StepTold, StepsStandIn, act_of, told_by}
 use Rattle.process_code.specs.declared.code.Code.{Code}
 use Rattle.process_code.specs.declared.state.RunEnd.{RunEnd}
-use Rattle.copy_laws.specs.SharedRuns.{activity_at_end, appended_by, written_by}
+use Rattle.copy_laws.specs.SharedRuns.{activity_after, activity_at_end, appended_by, written_by}
 
 -- The codes of a design's processes
 
@@ -30,9 +31,19 @@ pub record AreCodesOf (design : FlatDesign) (codes : List Code) : Type 0 where
 
 -- What is told
 
+-- what a step tells that a process takes at a time, by what it does before it
+abbrev pub step_told : ℕ → Activity → StepSeen → StepTold
+step_told time activity seen = record { stands = activity; line = seen.step.line; act = act_of time seen.step.action; read = seen.read }
+
+-- what some steps tell: each goes on from what the one before left the process doing
+abbrev pub steps_told : ℕ → Activity → List StepSeen → List StepTold
+steps_told time activity [] = []
+steps_told time activity (seen ∷ rest) = step_told time activity seen ∷ steps_told time (activity_after seen) rest
+
 -- what the end of a run of the definition tells
 abbrev pub told_of : ℕ → ProcessRun → RunTold
-told_of time run = record { activity = activity_at_end run.begins run.steps; later = appended_by time run.steps; writes = written_by run.steps }
+told_of time run =
+    record { activity = activity_at_end run.begins run.steps; later = appended_by time run.steps; writes = written_by run.steps; steps = steps_told time run.begins run.steps }
 
 -- the ends of the runs of a process in the phase of a number
 abbrev pub is_end_of : ℕ → ℕ → RunEnd → Bool
@@ -78,12 +89,13 @@ ender_told run = record { phase = run.phase; process = process_number run.proces
 
 -- All ends
 
--- a run that ended in one of so many phases, of a process that has a code, is in a state of that code
+-- a run that ended in one of so many phases, of a process that has a code, is in a state of that code, and was so before each of its steps
 pub record IsEndWithin (codes : List Code) (phases : ℕ) (run : RunEnd) : Type 0 where
   pub first : 1 ≤ run.phase
   pub last : run.phase ≤ phases
   pub process : process_number run.process < length codes
   pub state : (code : Code) → slice_get codes (process_number run.process) ≡ Some code → IsStateOf code run.state
+  pub steps : (code : Code) → slice_get codes (process_number run.process) ≡ Some code → StepsStandIn code run.steps
 
 -- the ends of all runs of some phases, numbered from 1, in the order in which the runs end: those of one process and phase tell of its runs there, in their order
 pub record AreRunEnds (codes : List Code) (machine : Machine) (phases : List Phase) (runs : List RunEnd) : Type 0 where

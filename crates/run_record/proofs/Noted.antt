@@ -10,24 +10,25 @@ use Rattle.std.proofs.lemmas.List.Elements.{All-nil, All-push, filter-append}
 use Rattle.std.proofs.lemmas.Option.{slice_get_within}
 use Rattle.vf_base.specs.Base.{process_number}
 use Rattle.v_design.specs.Designs.{FlatDesign, Machine}
-use Rattle.v_design.specs.Assignments.{ValueUpdate}
-use Rattle.v_design.specs.States.{LaterUpdate, Event, Step, LaneStep, Evaluation, NetUpdate, appended, write_of, step_of, is_ready}
+use Rattle.v_design.specs.Processes.{Action, ReadsObject, WritesObject, AppendsUpdate, TouchesNothing}
+use Rattle.v_design.specs.States.{Event, Step, LaneStep, Evaluation, NetUpdate, appended, write_of, step_of, is_ready}
 use Rattle.v_design.specs.PhaseLogs.{is_step_of}
 use Rattle.v_design.specs.Grades.{Phase}
-use Rattle.v_design.specs.OwnSteps.{StepSeen, seen_step, process_runs}
+use Rattle.v_design.specs.OwnSteps.{StepSeen, ProcessRun, seen_step, process_runs}
 use Rattle.process_code.specs.Points.{activity_of}
-use Rattle.process_code.specs.RunEnds.{told_by}
+use Rattle.process_code.specs.RunEnds.{StepsStandIn, act_by, act_of, step_told_by, told_by}
 use Rattle.process_code.specs.StatesOf.{IsStateOf}
 use Rattle.process_code.specs.declared.code.Code.{Code}
 use Rattle.process_code.specs.declared.state.ProcState.{ProcState}
 use Rattle.process_code.specs.declared.state.RunEnd.{RunEnd}
+use Rattle.process_code.specs.declared.state.StepTaken.{StepTaken}
 use Rattle.copy_laws.specs.OwnRuns.{last_goes_on, grow}
 use Rattle.copy_laws.specs.SharedRuns.{appended_by, written_by, read-next}
 use Rattle.slot_record.specs.SlotRecords.{one_more, state_in}
-use Rattle.run_ends.specs.RunEnds.{IsCodeAt, told_of, is_end_of, ends_of, ender_of, ender_if, ender_told, slot_enders}
-use Rattle.run_record.specs.Notes.{ended_runs, present_steps, SoFar, so_far_of, nothing_so_far, with_step, StepSays, StandsAfter, IsNotedIn, AreNotes}
+use Rattle.run_ends.specs.RunEnds.{IsCodeAt, step_told, told_of, is_end_of, ends_of, ender_of, ender_if, ender_told, slot_enders}
+use Rattle.run_record.specs.Notes.{ended_runs, present_steps, present_told, SoFar, nothing_so_far, appends_told, writes_told, with_step, IsSoFar, StepSays, StandsAfter, IsNotedIn, AreNotes}
 use Rattle.run_record.specs.RunRecords.{runs_so_far, IsEndOf, EventsNoteNothing, NoneReady, PhasesNoteNothing, SlotsBeginNotes, SlotsEndNotes}
-use Rattle.run_record.proofs.Growing.{Laws, joined-last, told_after, GoesOn, goes-on, Ends, ends, all-ended, none-present, next_seen, own-step, other-step, ender, enders-phase, enders-event}
+use Rattle.run_record.proofs.Growing.{Laws, joined-last, told_after, GoesOn, goes-on, Ends, ends, all-ended, none-present, none-told, next_seen, own-step, phase-leads, other-step, ender, enders-phase, enders-event}
 
 -- Tests
 
@@ -83,23 +84,90 @@ none-later design most number process (run ∷ ended) within low =
 
 -- What a step more tells
 
--- so the steps so far have appended and written
-so-far-more : (time : ℕ) (steps : List StepSeen) (seen : StepSeen) (later : Option LaterUpdate) (write : Option ValueUpdate) → option_to_list later ≡ appended time seen.step.action →
-    write ≡ write_of seen.step.action →
-    with_step later write (so_far_of time steps) ≡ so_far_of time (steps ++ seen ∷ [])
-so-far-more time steps seen later write laters writes =
-    λ i. record {
-      later = (ap (λ l. appended_by time steps ++ l) laters ∙ sym (joined-last (λ (s : StepSeen). appended time s.step.action) steps seen)) i;
-      writes = (ap (λ w. written_by steps ++ option_to_list w) writes ∙ sym (joined-last (λ (s : StepSeen). option_to_list (write_of s.step.action)) steps seen)) i;
-    }
+appends-of : (time : ℕ) (action : Action) → appends_told (act_of time action) ≡ appended time action
+appends-of time (ReadsObject object) = refl
+appends-of time (WritesObject update) = refl
+appends-of time (AppendsUpdate delay update) = refl
+appends-of time TouchesNothing = refl
 
--- where a step of a phase says so
-step-more : Laws → (machine : Machine) (phase : Phase) (process : ℕ) (steps : List StepSeen) (later : Option LaterUpdate) (write : Option ValueUpdate) →
-    StepSays machine (state_in machine phase) process later write →
-    with_step later write (so_far_of phase.begins.time steps) ≡ so_far_of phase.begins.time (steps ++ seen_step machine (state_in machine phase) process ∷ [])
-step-more laws machine phase process steps later write says =
-    so-far-more phase.begins.time steps (seen_step machine (state_in machine phase) process) later write
-    (says.later_is ∙ ap (λ time. appended time (step_of machine (state_in machine phase) process).action) (laws.time machine phase.begins phase.events)) says.write_is
+writes-of : (time : ℕ) (action : Action) → writes_told (act_of time action) ≡ option_to_list (write_of action)
+writes-of time (ReadsObject object) = refl
+writes-of time (WritesObject update) = refl
+writes-of time (AppendsUpdate delay update) = refl
+writes-of time TouchesNothing = refl
+
+-- a step of a phase did this
+act-said : Laws → (machine : Machine) (phase : Phase) (process : ℕ) (step : StepTaken) → StepSays machine (state_in machine phase) process step →
+    act_by step.act ≡ act_of phase.begins.time (step_of machine (state_in machine phase) process).action
+act-said laws machine phase process step says =
+    says.act_is ∙ ap (λ time. act_of time (step_of machine (state_in machine phase) process).action) (laws.time machine phase.begins phase.events)
+
+-- and tells this
+step-said : Laws → (machine : Machine) (phase : Phase) (process : ℕ) (step : StepTaken) (code : Code) → IsCodeAt machine.design process code →
+    StepSays machine (state_in machine phase) process step →
+    step_told_by code step ≡ step_told phase.begins.time (next_seen machine phase process).0 (next_seen machine phase process).1
+step-said laws machine phase process step code at says =
+    λ i. record { stands = says.activity code at i; line = says.line_is i; act = act-said laws machine phase process step says i; read = says.read_is i }
+
+-- so the steps so far, with this one, have appended and written this, and tell this
+module _ (laws : Laws) (machine : Machine) (phase : Phase) (process : ℕ) (runs : List ProcessRun) (kept : SoFar) (step : StepTaken)
+    (had : IsSoFar machine.design process phase.begins.time runs kept) (says : StepSays machine (state_in machine phase) process step) where
+  time : ℕ
+  time = phase.begins.time
+
+  seen : StepSeen
+  seen = seen_step machine (state_in machine phase) process
+
+  later-more : (with_step step kept).later ≡ appended_by time (present_steps runs ++ seen ∷ [])
+  later-more =
+      (λ i. had.later_is i ++ appends_told (act-said laws machine phase process step says i)) ∙ ap (λ l. appended_by time (present_steps runs) ++ l) (appends-of time seen.step.action)
+      ∙ sym (joined-last (λ (s : StepSeen). appended time s.step.action) (present_steps runs) seen)
+
+  writes-more : (with_step step kept).writes ≡ written_by (present_steps runs ++ seen ∷ [])
+  writes-more =
+      (λ i. had.writes_are i ++ writes_told (act-said laws machine phase process step says i)) ∙ ap (λ l. written_by (present_steps runs) ++ l) (writes-of time seen.step.action)
+      ∙ sym (joined-last (λ (s : StepSeen). option_to_list (write_of s.step.action)) (present_steps runs) seen)
+
+  told-more : (code : Code) → IsCodeAt machine.design process code →
+      map (step_told_by code) (kept.steps ++ step ∷ []) ≡ present_told time runs ++ step_told time (next_seen machine phase process).0 seen ∷ []
+  told-more code at = map_push (step_told_by code) kept.steps step ∙ λ i. had.told code at i ++ step-said laws machine phase process step code at says i ∷ []
+
+  stand-more : (code : Code) → IsCodeAt machine.design process code → StepsStandIn code (kept.steps ++ step ∷ [])
+  stand-more code at = All-push (λ (s : StepTaken). IsStateOf code s.state) kept.steps step (had.stand code at) (says.state_of code at)
+
+  -- where the run goes on, all this is kept
+  step-more : (more : List ProcessRun) → GoesOn time runs more (next_seen machine phase process) → IsSoFar machine.design process time more (with_step step kept)
+  step-more more goes = record {
+    later_is = later-more ∙ ap (appended_by time) (sym goes.present);
+    writes_are = writes-more ∙ ap written_by (sym goes.present);
+    count =
+        length-append kept.steps (step ∷ []) ∙ ap (λ n. n + 1) had.count ∙ sym (length-append (present_steps runs) (seen ∷ [])) ∙ ap (λ (l : List StepSeen). length l) (sym goes.present);
+    told = λ code at. told-more code at ∙ sym goes.told;
+    stand = stand-more;
+  }
+
+-- nothing is kept where no run is present
+none-so-far : (design : FlatDesign) (process time : ℕ) (runs : List ProcessRun) → present_steps runs ≡ [] → present_told time runs ≡ [] → IsSoFar design process time runs nothing_so_far
+none-so-far design process time runs none told = record {
+  later_is = ap (appended_by time) (sym none);
+  writes_are = ap written_by (sym none);
+  count = ap (λ (l : List StepSeen). length l) (sym none);
+  told = λ code at. sym told;
+  stand = λ code at. All-nil (λ (s : StepTaken). IsStateOf code s.state);
+}
+
+-- and nothing else
+kept-none : (design : FlatDesign) (process time : ℕ) (runs : List ProcessRun) (kept : SoFar) → present_steps runs ≡ [] → IsSoFar design process time runs kept → kept ≡ nothing_so_far
+kept-none design process time runs kept none had =
+    λ i. record {
+      later = (had.later_is ∙ ap (appended_by time) none) i;
+      writes = (had.writes_are ∙ ap written_by none) i;
+      steps = no-steps kept.steps (had.count ∙ ap (λ (l : List StepSeen). length l) none) i;
+    }
+  where
+    no-steps : (steps : List StepTaken) → length steps ≡ 0 → steps ≡ []
+    no-steps [] e = refl
+    no-steps (step ∷ steps) e = cc
 
 -- An event that is no process step
 
@@ -107,7 +175,9 @@ quiet-event : Laws → (machine : Machine) (before : List Phase) (phase : Phase)
     ender_of machine (state_in machine phase) event ≡ [] → AreNotes machine before phase present ended → AreNotes machine before (one_more event phase) present ended
 quiet-event laws machine before phase event present ended others none notes = record {
   count = notes.count;
-  present_are = λ process low. notes.present_are process low ∙ ap (λ runs. so_far_of phase.begins.time (present_steps runs)) (sym (other-step laws machine process phase event (others process)));
+  present_are = λ process low.
+      subst (λ runs. IsSoFar machine.design process phase.begins.time runs (get_or present process nothing_so_far)) (sym (other-step laws machine process phase event (others process)))
+      (notes.present_are process low);
   within = notes.within;
   order =
       notes.order
@@ -128,43 +198,44 @@ events-note-nothing laws machine before phase (NetUpdate node) kept quiet notes 
 -- the runs so far where that of one process is set
 module _ (laws : Laws) (machine : Machine) (before : List Phase) (phase : Phase) (process : ℕ) (present : List SoFar) (ended : List RunEnd) (there : process < length present)
     (notes : AreNotes machine before phase present ended) where
+  -- what is kept of a process's present run with the step
+  KeptWith : List SoFar → ℕ → Type 0
+  KeptWith runs any = IsSoFar machine.design any phase.begins.time (process_runs machine any (one_more (Step process) phase)) (get_or runs any nothing_so_far)
+
   -- the runs of another process stay
-  others-present : (told : SoFar) (other : ℕ) → nat_eq other process ≡ false → other < length (set present process told) →
-      get_or (set present process told) other nothing_so_far ≡ so_far_of phase.begins.time (present_steps (process_runs machine other (one_more (Step process) phase)))
+  others-present : (told : SoFar) (other : ℕ) → nat_eq other process ≡ false → other < length (set present process told) → KeptWith (set present process told) other
   others-present told other is low =
-      get_or-set_other present process other told nothing_so_far (apart other process is) ∙ notes.present_are other (subst (λ n. other < n) (length-set present process told) low)
-      ∙ ap (λ runs. so_far_of phase.begins.time (present_steps runs)) (sym (other-step laws machine other phase (Step process) is))
+      subst (λ runs. IsSoFar machine.design other phase.begins.time runs (get_or (set present process told) other nothing_so_far))
+      (sym (other-step laws machine other phase (Step process) is))
+      (subst (IsSoFar machine.design other phase.begins.time (process_runs machine other phase))
+      (sym (get_or-set_other present process other told nothing_so_far (apart other process is)))
+      (notes.present_are other (subst (λ n. other < n) (length-set present process told) low)))
 
   -- that of the process is told
-  all-present : (told : SoFar) → told ≡ so_far_of phase.begins.time (present_steps (process_runs machine process (one_more (Step process) phase))) → (any : ℕ) →
-      any < length (set present process told) →
-      get_or (set present process told) any nothing_so_far ≡ so_far_of phase.begins.time (present_steps (process_runs machine any (one_more (Step process) phase)))
+  all-present : (told : SoFar) → IsSoFar machine.design process phase.begins.time (process_runs machine process (one_more (Step process) phase)) told → (any : ℕ) →
+      any < length (set present process told) → KeptWith (set present process told) any
   all-present told is =
-      each-process
-      (λ any. any < length (set present process told) → get_or (set present process told) any nothing_so_far ≡ so_far_of phase.begins.time
-      (present_steps (process_runs machine any (one_more (Step process) phase)))) process
-      (λ low. get_or-set_same present process told nothing_so_far there ∙ is) (λ other no low. others-present told other no low)
-
-  -- what the step says of the present run
-  step-so-far : (later : Option LaterUpdate) (write : Option ValueUpdate) → StepSays machine (state_in machine phase) process later write →
-      with_step later write (get_or present process nothing_so_far)
-      ≡ so_far_of phase.begins.time (present_steps (process_runs machine process phase) ++ seen_step machine (state_in machine phase) process ∷ [])
-  step-so-far later write says =
-      ap (with_step later write) (notes.present_are process there) ∙ step-more laws machine phase process (present_steps (process_runs machine process phase)) later write says
+      each-process (λ any. any < length (set present process told) → KeptWith (set present process told) any) process
+      (λ low.
+      subst (IsSoFar machine.design process phase.begins.time (process_runs machine process (one_more (Step process) phase)))
+      (sym (get_or-set_same present process told nothing_so_far there)) is)
+      (λ other no low. others-present told other no low)
 
   -- a step after which the process is ready
-  pub step-noted : (later : Option LaterUpdate) (write : Option ValueUpdate) → StepSays machine (state_in machine phase) process later write →
-      is_ready (step_of machine (state_in machine phase) process).next ≡ true →
-      AreNotes machine before (one_more (Step process) phase) (set present process (with_step later write (get_or present process nothing_so_far))) ended
-  step-noted later write says ready =
-      let told : SoFar = with_step later write (get_or present process nothing_so_far) in
-      let own : process_runs machine process (one_more (Step process) phase) ≡ grow (process_runs machine process phase) (next_seen machine phase process) = own-step laws machine process phase in
-      let goes : GoesOn (process_runs machine process phase) (grow (process_runs machine process phase) (next_seen machine phase process)) (seen_step machine (state_in machine phase) process) =
-      goes-on (process_runs machine process phase) (next_seen machine phase process) ready in
+  pub step-noted : (step : StepTaken) → StepSays machine (state_in machine phase) process step → is_ready (step_of machine (state_in machine phase) process).next ≡ true →
+      AreNotes machine before (one_more (Step process) phase) (set present process (with_step step (get_or present process nothing_so_far))) ended
+  step-noted step says ready =
+      let old = get_or present process nothing_so_far in
+      let told : SoFar = with_step step old in
+      let runs = process_runs machine process phase in
+      let own : process_runs machine process (one_more (Step process) phase) ≡ grow runs (next_seen machine phase process) = own-step laws machine process phase in
+      let goes : GoesOn phase.begins.time runs (grow runs (next_seen machine phase process)) (next_seen machine phase process) =
+      goes-on phase.begins.time runs (next_seen machine phase process) (phase-leads laws machine process phase) ready in
       record {
         count = length-set present process told ∙ notes.count;
         present_are = all-present told
-            (step-so-far later write says ∙ ap (so_far_of phase.begins.time) (sym goes.present) ∙ ap (λ runs. so_far_of phase.begins.time (present_steps runs)) (sym own));
+            (subst (λ rs. IsSoFar machine.design process phase.begins.time rs told) (sym own)
+            (step-more laws machine phase process runs old step (notes.present_are process there) says (grow runs (next_seen machine phase process)) goes));
         within = notes.within;
         order =
             notes.order
@@ -181,19 +252,26 @@ module _ (laws : Laws) (machine : Machine) (before : List Phase) (phase : Phase)
       }
 
   -- the end of the run that the step ends
-  module _ (later : Option LaterUpdate) (write : Option ValueUpdate) (stands : ProcState) (run : RunEnd) (says : StepSays machine (state_in machine phase) process later write)
+  module _ (step : StepTaken) (stands : ProcState) (run : RunEnd) (says : StepSays machine (state_in machine phase) process step)
       (stops : is_ready (step_of machine (state_in machine phase) process).next ≡ false) (after : StandsAfter machine (state_in machine phase) process stands)
-      (end : IsEndOf (length before + 1) process stands (with_step later write (get_or present process nothing_so_far)) run) where
+      (end : IsEndOf (length before + 1) process stands (with_step step (get_or present process nothing_so_far)) run) where
+    runs : List ProcessRun
+    runs = process_runs machine process phase
+
+    old : SoFar
+    old = get_or present process nothing_so_far
+
     -- it tells of the run
     run-told : (code : Code) → IsCodeAt machine.design process code →
-        told_by code run ≡ told_after phase.begins.time (present_steps (process_runs machine process phase)) (seen_step machine (state_in machine phase) process)
+        told_by code run ≡ told_after phase.begins.time (present_told phase.begins.time runs) (present_steps runs) (next_seen machine phase process)
     run-told code at =
-        let is = step-so-far later write says in
+        let had = notes.present_are process there in
         λ i. record {
           activity = (ap (activity_of code) end.state_is ∙ after.activity code at
               ∙ read-next (state_in machine phase) (step_of machine (state_in machine phase) process).action (step_of machine (state_in machine phase) process).next) i;
-          later = (end.later_is ∙ ap (λ (told : SoFar). told.later) is) i;
-          writes = (end.writes_are ∙ ap (λ (told : SoFar). told.writes) is) i;
+          later = (end.later_is ∙ later-more laws machine phase process runs old step had says) i;
+          writes = (end.writes_are ∙ writes-more laws machine phase process runs old step had says) i;
+          steps = (ap (map (step_told_by code)) end.steps_are ∙ told-more laws machine phase process runs old step had says code at) i;
         }
 
     own-test : is_end_of (length before + 1) process run ≡ true
@@ -213,17 +291,22 @@ module _ (laws : Laws) (machine : Machine) (before : List Phase) (phase : Phase)
       last = omega (arith, end.phase_is);
       process = subst (λ q. q < length machine.design.processes) (sym end.process_is) low;
       state = λ code at. subst (IsStateOf code) (sym end.state_is) (after.state_of code (subst (λ q. IsCodeAt machine.design q code) end.process_is at));
+      steps = λ code at.
+          subst (StepsStandIn code) (sym end.steps_are)
+          (stand-more laws machine phase process runs old step (notes.present_are process there) says code (subst (λ q. IsCodeAt machine.design q code) end.process_is at));
     }
 
     pub end-noted : AreNotes machine before (one_more (Step process) phase) (set present process nothing_so_far) (ended ++ run ∷ [])
     end-noted =
-        let own : process_runs machine process (one_more (Step process) phase) ≡ grow (process_runs machine process phase) (next_seen machine phase process) = own-step laws machine process phase in
-        let stopped : Ends phase.begins.time (process_runs machine process phase) (grow (process_runs machine process phase) (next_seen machine phase process))
-        (seen_step machine (state_in machine phase) process) =
-        ends phase.begins.time (process_runs machine process phase) (next_seen machine phase process) stops in
+        let more = grow runs (next_seen machine phase process) in
+        let own : process_runs machine process (one_more (Step process) phase) ≡ more = own-step laws machine process phase in
+        let stopped : Ends phase.begins.time runs more (next_seen machine phase process) =
+        ends phase.begins.time runs (next_seen machine phase process) (phase-leads laws machine process phase) stops in
         record {
           count = length-set present process nothing_so_far ∙ notes.count;
-          present_are = all-present nothing_so_far (ap (so_far_of phase.begins.time) (sym stopped.present) ∙ ap (λ runs. so_far_of phase.begins.time (present_steps runs)) (sym own));
+          present_are = all-present nothing_so_far
+              (subst (λ rs. IsSoFar machine.design process phase.begins.time rs nothing_so_far) (sym own)
+              (none-so-far machine.design process phase.begins.time more stopped.present stopped.told));
           within = All-push (IsNotedIn machine.design (length before + 1)) ended run notes.within noted-in;
           order =
               map_push ender_told ended run ∙ ap (λ l. l ++ ender_told run ∷ []) notes.order
@@ -273,7 +356,8 @@ none-kept : Laws → (machine : Machine) (before : List Phase) (phase : Phase) (
     AreNotes machine before phase present ended →
     (process : ℕ) → process < length present → get_or present process nothing_so_far ≡ nothing_so_far
 none-kept laws machine before phase present ended none notes process low =
-    notes.present_are process low ∙ ap (so_far_of phase.begins.time) (none-present (process_runs machine process phase) (none-goes laws machine phase process none))
+    kept-none machine.design process phase.begins.time (process_runs machine process phase) (get_or present process nothing_so_far)
+    (none-present (process_runs machine process phase) (none-goes laws machine phase process none)) (notes.present_are process low)
 
 longer : (before : List Phase) (phase : Phase) → length (before ++ phase ∷ []) ≡ length before + 1
 longer before phase = length-append before (phase ∷ [])
@@ -285,10 +369,12 @@ phases-note-nothing laws machine before phase turn begins kept none notes =
     let next : Phase = record { turn = turn; begins = begins; events = [] } in
     record {
       count = notes.count;
-      present_are = λ process low. none-kept laws machine before phase present ended none notes process low;
+      present_are = λ process low.
+          subst (IsSoFar machine.design process next.begins.time []) (sym (none-kept laws machine before phase present ended none notes process low))
+          (none-so-far machine.design process next.begins.time [] refl refl);
       within = λ k d low.
           let h = notes.within k d low in
-          record { first = h.first; last = omega (arith, h.last, longer before phase); process = h.process; state = h.state };
+          record { first = h.first; last = omega (arith, h.last, longer before phase); process = h.process; state = h.state; steps = h.steps };
       order = notes.order ∙ sym (enders-phase machine (before ++ phase ∷ []) next ∙ append-nil (slot_enders machine (before ++ phase ∷ [])));
       told_before = all-told laws machine before phase present ended none notes;
       told_now = λ process code at.
@@ -300,7 +386,8 @@ phases-note-nothing laws machine before phase turn begins kept none notes =
 pub slots-begin-notes : SlotsBeginNotes
 slots-begin-notes machine begins kept rests none = record {
   count = rests.count;
-  present_are = λ process low. rests.nothing process low;
+  present_are = λ process low.
+      subst (IsSoFar machine.design process begins.time []) (sym (rests.nothing process low)) (none-so-far machine.design process begins.time [] refl refl);
   within = subst (λ l. All (IsNotedIn machine.design 1) l) (sym none) (All-nil (IsNotedIn machine.design 1));
   order = ap (map ender_told) none;
   told_before = λ number process one code stands at. cc;
@@ -318,6 +405,7 @@ slots-end-notes laws machine before phase kept none notes = record {
           last = omega (arith, h.last, longer before phase);
           process = omega (arith, h.process, are.count);
           state = λ code at. h.state code (are.each _ code at);
+          steps = λ code at. h.steps code (are.each _ code at);
         };
     order = notes.order;
     told = λ number process one code stands at. all-told laws machine before phase (runs_so_far kept) kept.ended.items none notes number process one code stands (are.each process code at);

@@ -1,22 +1,22 @@
 -- What is noted of the process runs of a slot so far (phases by IEEE 1364-2001, clause 5; processes by clause 9).
 use Rattle.std.specs.Prelude.{◌≡◌, ℕ, ◌+◌, ◌<◌, ◌≤◌, Bool, true, false, List, [], ◌∷◌, ◌++◌, map, length, get_or, Option, Some, slice_get}
 use Rattle.std.specs.List.{All}
-use Rattle.std.specs.Option.{option_to_list}
 use Rattle.vf_base.specs.Base.{process_number}
 use Rattle.v_design.specs.Designs.{FlatDesign, Machine}
 use Rattle.v_design.specs.Assignments.{ValueUpdate}
-use Rattle.v_design.specs.States.{State, LaterUpdate, appended, write_of, step_of, next_activity}
+use Rattle.v_design.specs.States.{State, LaterUpdate, process_at, step_of, next_activity}
 use Rattle.v_design.specs.Grades.{Phase}
-use Rattle.v_design.specs.OwnSteps.{StepSeen, ProcessRun, process_runs}
+use Rattle.v_design.specs.OwnSteps.{StepSeen, ProcessRun, value_read, process_runs}
 use Rattle.process_code.specs.Points.{activity_of}
-use Rattle.process_code.specs.RunEnds.{told_by}
+use Rattle.process_code.specs.RunEnds.{ActTold, TellsRead, TellsWrite, TellsAppend, TellsInner, StepTold, StepsStandIn, act_by, act_of, step_told_by, told_by}
 use Rattle.process_code.specs.StatesOf.{IsStateOf}
 use Rattle.process_code.specs.declared.code.Code.{Code}
 use Rattle.process_code.specs.declared.state.ProcState.{ProcState}
 use Rattle.process_code.specs.declared.state.RunEnd.{RunEnd}
+use Rattle.process_code.specs.declared.state.StepTaken.{StepTaken}
 use Rattle.copy_laws.specs.OwnRuns.{is_going}
 use Rattle.copy_laws.specs.SharedRuns.{appended_by, written_by}
-use Rattle.run_ends.specs.RunEnds.{IsCodeAt, told_of, ends_of, ender_told, slot_enders}
+use Rattle.run_ends.specs.RunEnds.{IsCodeAt, steps_told, told_of, ends_of, ender_told, slot_enders}
 
 -- The runs of a process in a phase so far
 
@@ -40,28 +40,64 @@ present_steps [] = []
 present_steps (run ∷ []) = steps_if (is_going run.steps) run.steps
 present_steps (run ∷ next ∷ rest) = present_steps (next ∷ rest)
 
+-- and what they tell
+abbrev pub told_if : Bool → List StepTold → List StepTold
+told_if true told = told
+told_if false told = []
+
+abbrev pub present_told : ℕ → List ProcessRun → List StepTold
+present_told time [] = []
+present_told time (run ∷ []) = told_if (is_going run.steps) (steps_told time run.begins run.steps)
+present_told time (run ∷ next ∷ rest) = present_told time (next ∷ rest)
+
 -- Steps
 
--- what the steps of a run appended and wrote so far
+-- what is kept of a present run: what its steps appended and wrote so far, and the steps
 pub record SoFar : Type 0 where
   pub later : List LaterUpdate
   pub writes : List ValueUpdate
-
-abbrev pub so_far_of : ℕ → List StepSeen → SoFar
-so_far_of time steps = record { later = appended_by time steps; writes = written_by steps }
+  pub steps : List StepTaken
 
 -- nothing, where a process is in no run
 abbrev pub nothing_so_far : SoFar
-nothing_so_far = record { later = []; writes = [] }
+nothing_so_far = record { later = []; writes = []; steps = [] }
 
--- the same with a step more, which appends an update, or writes one, or does neither
-abbrev pub with_step : Option LaterUpdate → Option ValueUpdate → SoFar → SoFar
-with_step later write run = record { later = run.later ++ option_to_list later; writes = run.writes ++ option_to_list write }
+-- the update that an act appended, and the one that it wrote
+abbrev pub appends_told : ActTold → List LaterUpdate
+appends_told (TellsRead object) = []
+appends_told (TellsWrite update) = []
+appends_told (TellsAppend update) = update ∷ []
+appends_told TellsInner = []
 
--- what the step of a process in a state appends and writes
-pub record StepSays (machine : Machine) (state : State) (process : ℕ) (later : Option LaterUpdate) (write : Option ValueUpdate) : Type 0 where
-  pub later_is : option_to_list later ≡ appended state.time (step_of machine state process).action
-  pub write_is : write ≡ write_of (step_of machine state process).action
+abbrev pub writes_told : ActTold → List ValueUpdate
+writes_told (TellsRead object) = []
+writes_told (TellsWrite update) = update ∷ []
+writes_told (TellsAppend update) = []
+writes_told TellsInner = []
+
+-- the same with what an act more appended and wrote, and with a step more
+abbrev pub with_act : ActTold → SoFar → SoFar
+with_act act run = record { later = run.later ++ appends_told act; writes = run.writes ++ writes_told act; steps = run.steps }
+
+abbrev pub with_step : StepTaken → SoFar → SoFar
+with_step step run =
+    record { later = run.later ++ appends_told (act_by step.act); writes = run.writes ++ writes_told (act_by step.act); steps = run.steps ++ step ∷ [] }
+
+-- this is kept of the present run of a process in a phase of a time, where the process has these runs there
+pub record IsSoFar (design : FlatDesign) (process time : ℕ) (runs : List ProcessRun) (kept : SoFar) : Type 0 where
+  pub later_is : kept.later ≡ appended_by time (present_steps runs)
+  pub writes_are : kept.writes ≡ written_by (present_steps runs)
+  pub count : length kept.steps ≡ length (present_steps runs)
+  pub told : (code : Code) → IsCodeAt design process code → map (step_told_by code) kept.steps ≡ present_told time runs
+  pub stand : (code : Code) → IsCodeAt design process code → StepsStandIn code kept.steps
+
+-- this is the step of a process in a state, whichever code of it one has
+pub record StepSays (machine : Machine) (state : State) (process : ℕ) (step : StepTaken) : Type 0 where
+  pub line_is : step.line ≡ (step_of machine state process).line
+  pub act_is : act_by step.act ≡ act_of state.time (step_of machine state process).action
+  pub read_is : step.read ≡ value_read state (step_of machine state process).action
+  pub state_of : (code : Code) → IsCodeAt machine.design process code → IsStateOf code step.state
+  pub activity : (code : Code) → IsCodeAt machine.design process code → activity_of code step.state ≡ (process_at state process).activity
 
 -- where a process stands after its step in a state, whichever code of it one has
 pub record StandsAfter (machine : Machine) (state : State) (process : ℕ) (stands : ProcState) : Type 0 where
@@ -71,17 +107,19 @@ pub record StandsAfter (machine : Machine) (state : State) (process : ℕ) (stan
 
 -- Notes
 
--- a run that ended, in one of so many phases, is of a process of the design, and in a state of each code of that process
+-- a run that ended, in one of so many phases, is of a process of the design, and in a state of each code of that process, as it was before each of its steps
 pub record IsNotedIn (design : FlatDesign) (phases : ℕ) (run : RunEnd) : Type 0 where
   pub first : 1 ≤ run.phase
   pub last : run.phase ≤ phases
   pub process : process_number run.process < length design.processes
   pub state : (code : Code) → IsCodeAt design (process_number run.process) code → IsStateOf code run.state
+  pub steps : (code : Code) → IsCodeAt design (process_number run.process) code → StepsStandIn code run.steps
 
 -- the present run of each process, and the ends of all runs that ended so far, in phases that ended and in the present one
 pub record AreNotes (machine : Machine) (before : List Phase) (phase : Phase) (present : List SoFar) (ended : List RunEnd) : Type 0 where
   pub count : length present ≡ length machine.design.processes
-  pub present_are : (process : ℕ) → process < length present → get_or present process nothing_so_far ≡ so_far_of phase.begins.time (present_steps (process_runs machine process phase))
+  pub present_are : (process : ℕ) → process < length present →
+      IsSoFar machine.design process phase.begins.time (process_runs machine process phase) (get_or present process nothing_so_far)
   pub within : All (IsNotedIn machine.design (length before + 1)) ended
   pub order : map ender_told ended ≡ slot_enders machine (before ++ phase ∷ [])
   pub told_before : (number process : ℕ) (one : Phase) (code : Code) → slice_get before number ≡ Some one → IsCodeAt machine.design process code →

@@ -3,13 +3,13 @@ use Rattle.std.specs.Prelude.{◌≡◌, ℕ, ◌+◌, ◌<◌, true, false, Lis
 use Rattle.vf_base.specs.Base.{process_number}
 use Rattle.v_design.specs.Plain.{due_of, update_of}
 use Rattle.v_design.specs.Designs.{Machine}
-use Rattle.v_design.specs.Assignments.{ValueUpdate}
-use Rattle.v_design.specs.States.{State, LaterUpdate, Event, Step, TurnKind, step_of, process_at, is_ready}
+use Rattle.v_design.specs.States.{State, Event, Step, TurnKind, step_of, process_at, is_ready}
 use Rattle.v_design.specs.Runs.{Happens}
 use Rattle.v_design.specs.Grades.{Phase}
 use Rattle.v_design.specs.OwnSteps.{is_process_step}
 use Rattle.process_code.specs.declared.state.ProcState.{ProcState}
 use Rattle.process_code.specs.declared.state.RunEnd.{RunEnd}
+use Rattle.process_code.specs.declared.state.StepTaken.{StepTaken}
 use Rattle.slot_record.specs.SlotRecords.{one_more, state_in}
 use Rattle.run_ends.specs.RunEnds.{HaveRunEnds}
 use Rattle.run_record.specs.Notes.{SoFar, nothing_so_far, StepSays, StandsAfter, AreNotes}
@@ -18,7 +18,7 @@ use Rattle.run_record.specs.declared.record.RunRecord.{RunRecord}
 
 -- what is kept of a present run
 abbrev pub so_far : RunSoFar → SoFar
-so_far run = record { later = map due_of run.later.items; writes = map update_of run.writes.items }
+so_far run = record { later = map due_of run.later.items; writes = map update_of run.writes.items; steps = run.steps.items }
 
 -- the present runs of the processes, by number
 abbrev pub runs_so_far : RunRecord → List SoFar
@@ -36,24 +36,25 @@ pub record AreAtRest (processes : ℕ) (runs : List SoFar) : Type 0 where
 abbrev pub IsAtRest : ℕ → RunRecord → Type 0
 IsAtRest processes kept = AreAtRest processes (runs_so_far kept)
 
--- the end of a run of a process in the phase of a number, where the process stands so, and the run appended and wrote this
+-- the end of a run of a process in the phase of a number, where the process stands so, and the run has these steps, which appended and wrote this
 pub record IsEndOf (phase process : ℕ) (stands : ProcState) (told : SoFar) (run : RunEnd) : Type 0 where
   pub phase_is : run.phase ≡ phase
   pub process_is : process_number run.process ≡ process
   pub state_is : run.state ≡ stands
   pub later_is : map due_of run.later ≡ told.later
   pub writes_are : map update_of run.writes ≡ told.writes
+  pub steps_are : run.steps ≡ told.steps
 
 -- a step of a process more in the present phase, after which it is ready
-abbrev pub NotesStep : (process : ℕ) (later : Option LaterUpdate) (write : Option ValueUpdate) (old new : RunRecord) → Type 0
-NotesStep process later write old new =
-    (machine : Machine) (before : List Phase) (phase : Phase) → RecordsRuns machine before phase old → StepSays machine (state_in machine phase) process later write →
+abbrev pub NotesStep : (process : ℕ) (step : StepTaken) (old new : RunRecord) → Type 0
+NotesStep process step old new =
+    (machine : Machine) (before : List Phase) (phase : Phase) → RecordsRuns machine before phase old → StepSays machine (state_in machine phase) process step →
     is_ready (step_of machine (state_in machine phase) process).next ≡ true → RecordsRuns machine before (one_more (Step process) phase) new
 
 -- and one after which it isn't, but stands so
-abbrev pub NotesEnd : (number process : ℕ) (later : Option LaterUpdate) (write : Option ValueUpdate) (stands : ProcState) (old new : RunRecord) → Type 0
-NotesEnd number process later write stands old new =
-    (machine : Machine) (before : List Phase) (phase : Phase) → RecordsRuns machine before phase old → StepSays machine (state_in machine phase) process later write →
+abbrev pub NotesEnd : (number process : ℕ) (step : StepTaken) (stands : ProcState) (old new : RunRecord) → Type 0
+NotesEnd number process step stands old new =
+    (machine : Machine) (before : List Phase) (phase : Phase) → RecordsRuns machine before phase old → StepSays machine (state_in machine phase) process step →
     is_ready (step_of machine (state_in machine phase) process).next ≡ false → number ≡ length before + 1 → StandsAfter machine (state_in machine phase) process stands →
     RecordsRuns machine before (one_more (Step process) phase) new
 

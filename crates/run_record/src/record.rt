@@ -2,23 +2,23 @@
 
 ghost use Rattle.std.specs.Prelude.{◌≡◌, ◌<◌, ◌++◌, [], length, map, set, get_or, IfOk, OnOk};
 ghost use Rattle.std.specs.List.{All};
-ghost use Rattle.std.specs.Option.{option_map, option_to_list};
 ghost use Rattle.vf_base.specs.Base.{process_number};
-ghost use Rattle.v_design.specs.Plain.{due_of, update_of};
-ghost use Rattle.run_record.specs.Notes.{SoFar, nothing_so_far, with_step};
+ghost use Rattle.process_code.specs.RunEnds.{act_by};
+ghost use Rattle.run_record.specs.Notes.{SoFar, nothing_so_far, with_act, with_step};
 ghost use Rattle.run_record.specs.RunRecords.{so_far, runs_so_far, IsAtRest, NotesStep, NotesEnd, IsEndOf};
 
-use process_code::{ProcState, RunEnd};
+use process_code::{ProcState, RunEnd, StepAct, StepTaken};
 use std::alloc::Global;
 use std::mem;
 use v_design::{Due, Update};
 use vf_base::{NoMemory, ProcId, Seq};
 
-/// What the present run of a process appended and wrote so far, in order; nothing where it is in no run. The memory is used again from run to run.
+/// What the present run of a process appended and wrote so far, and its steps, in order; nothing where it is in no run. The memory is used again from run to run.
 #[derive(Drop)]
 struct RunSoFar {
     later: Vec<Due>,
     writes: Vec<Update>,
+    steps: Vec<StepTaken>,
 }
 
 /// The process runs of a slot: the present one of each process, and the ends of those that ended, in the order in which they ended.
@@ -45,21 +45,8 @@ fn make_room(ended: &mut Vec<RunEnd>, processes: usize) -> Result<(), NoMemory>
     Ok(())
 }
 
-/// Puts an element at the end of a list, if there is one.
-fn push_some<T: Copy>(list: &mut Vec<T>, element: Option<T>) -> Result<(), NoMemory>
-    ensures { OnOk result (list.new.items ≡ list.old.items ++ option_to_list element) }
-{
-    match element {
-        Some(one) => {
-            list.push(one)?;
-            Ok(())
-        }
-        None => Ok(()),
-    }
-}
-
 /// Empties a list, whose memory is used again, into one that takes just as much as it needs.
-fn take_list<T: Copy>(alloc: Global, list: &mut Vec<T>) -> Result<Seq<T>, NoMemory>
+fn take_list<T>(alloc: Global, list: &mut Vec<T>) -> Result<Seq<T>, NoMemory>
     ensures taken { IfOk result (λ taken. taken ≡ list.old.items) }
     ensures empty { OnOk result (list.new.items ≡ []) }
 {
@@ -67,8 +54,7 @@ fn take_list<T: Copy>(alloc: Global, list: &mut Vec<T>) -> Result<Seq<T>, NoMemo
         return Ok(Seq::from_vec(Vec::new(alloc)));
     }
     let mut taken = Vec::with_capacity(alloc, list.len())?;
-    taken.extend_from_slice(list)?;
-    list.clear();
+    taken.append(list)?;
     Ok(Seq::from_vec(taken))
 }
 
@@ -80,15 +66,34 @@ impl RunSoFar {
         RunSoFar {
             later: Vec::new(alloc),
             writes: Vec::new(alloc),
+            steps: Vec::new(alloc),
         }
     }
 
-    /// A run's step appends an update, or writes one, or does neither.
-    fn go_on(&mut self, later: Option<Due>, write: Option<Update>) -> Result<(), NoMemory>
-        ensures { OnOk result (so_far self.new ≡ with_step (option_map due_of later) (option_map update_of write) (so_far self.old)) }
+    /// A step's act appends an update, or writes one, or does neither.
+    fn note_act(&mut self, act: &StepAct) -> Result<(), NoMemory>
+        ensures { OnOk result (so_far self.new ≡ with_act (act_by act.now) (so_far self.old)) }
     {
-        push_some(&mut self.later, later)?;
-        push_some(&mut self.writes, write)?;
+        match act {
+            StepAct::Append(due) => {
+                self.later.push(*due)?;
+                Ok(())
+            }
+            StepAct::Write(update) => {
+                self.writes.push(*update)?;
+                Ok(())
+            }
+            StepAct::Read(_) => Ok(()),
+            StepAct::Inner => Ok(()),
+        }
+    }
+
+    /// The run goes on by a step.
+    fn go_on(&mut self, step: StepTaken) -> Result<(), NoMemory>
+        ensures { OnOk result (so_far self.new ≡ with_step step (so_far self.old)) }
+    {
+        self.note_act(&step.act)?;
+        self.steps.push(step)?;
         Ok(())
     }
 
@@ -105,12 +110,14 @@ impl RunSoFar {
     {
         let later = take_list(alloc, &mut self.later)?;
         let writes = take_list(alloc, &mut self.writes)?;
+        let steps = take_list(alloc, &mut self.steps)?;
         Ok(RunEnd {
             phase,
             process,
             state,
             later,
             writes,
+            steps,
         })
     }
 }
@@ -127,40 +134,17 @@ fn no_runs(alloc: Global, processes: usize) -> Result<Vec<RunSoFar>, NoMemory>
     Ok(runs)
 }
 
-/// A step of a process's present run appends an update, or writes one, or does neither.
-#[inline(never)]
+/// The present run of a process goes on by a step.
 fn go_on_at(
     runs: &mut Vec<RunSoFar>,
     process: ProcId,
-    later: Option<Due>,
-    write: Option<Update>,
+    step: StepTaken,
 ) -> Result<(), NoMemory>
     requires { process_number process < length runs.old.items }
-    ensures { OnOk result (map so_far runs.new.items ≡ set (map so_far runs.old.items) (process_number process) (with_step (option_map due_of later)
-        (option_map update_of write) (get_or (map so_far runs.old.items) (process_number process) nothing_so_far))) }
+    ensures { OnOk result (map so_far runs.new.items ≡ set (map so_far runs.old.items) (process_number process) (with_step step
+        (get_or (map so_far runs.old.items) (process_number process) nothing_so_far))) }
 {
-    runs[process.0 as usize].go_on(later, write)?;
-    Ok(())
-}
-
-/// The same, where most steps append and write nothing: those change nothing.
-#[inline(always)]
-fn go_on_by(
-    runs: &mut Vec<RunSoFar>,
-    process: ProcId,
-    later: Option<Due>,
-    write: Option<Update>,
-) -> Result<(), NoMemory>
-    requires { process_number process < length runs.old.items }
-    ensures { OnOk result (map so_far runs.new.items ≡ set (map so_far runs.old.items) (process_number process) (with_step (option_map due_of later)
-        (option_map update_of write) (get_or (map so_far runs.old.items) (process_number process) nothing_so_far))) }
-{
-    if later.is_none() {
-        if write.is_none() {
-            return Ok(());
-        }
-    }
-    go_on_at(runs, process, later, write)?;
+    runs[process.0 as usize].go_on(step)?;
     Ok(())
 }
 
@@ -216,27 +200,22 @@ impl RunRecord {
         self.ended.clear();
     }
 
-    /// Notes a step of a process after which it is ready, with the update that the step appended, or that it wrote.
+    /// Notes a step of a process after which it is ready.
     ///
     /// # Errors
     ///
     /// Want of memory.
-    pub fn go_on(
-        &mut self,
-        process: ProcId,
-        later: Option<Due>,
-        write: Option<Update>,
-    ) -> Result<(), NoMemory>
+    pub fn go_on(&mut self, process: ProcId, step: StepTaken) -> Result<(), NoMemory>
         requires { process_number process < length (runs_so_far self.old) }
-        ensures { OnOk result (NotesStep (process_number process) (option_map due_of later) (option_map update_of write) self.old self.new) }
+        ensures { OnOk result (NotesStep (process_number process) step self.old self.new) }
     {
         copy_laws::own_runs();
-        go_on_by(&mut self.present, process, later, write)?;
+        present_runs::present_runs_lead();
+        go_on_at(&mut self.present, process, step)?;
         Ok(())
     }
 
-    /// Notes a step of a process that ends its run in the phase of a number, with the update that the step appended, or that it wrote, and where the process
-    /// stands then.
+    /// Notes a step of a process that ends its run in the phase of a number, and where the process stands then.
     ///
     /// # Errors
     ///
@@ -245,15 +224,15 @@ impl RunRecord {
         &mut self,
         phase: u32,
         process: ProcId,
-        later: Option<Due>,
-        write: Option<Update>,
+        step: StepTaken,
         state: ProcState,
     ) -> Result<(), NoMemory>
         requires { process_number process < length (runs_so_far self.old) }
-        ensures { OnOk result (NotesEnd phase (process_number process) (option_map due_of later) (option_map update_of write) state self.old self.new) }
+        ensures { OnOk result (NotesEnd phase (process_number process) step state self.old self.new) }
     {
         copy_laws::own_runs();
-        go_on_by(&mut self.present, process, later, write)?;
+        present_runs::present_runs_lead();
+        go_on_at(&mut self.present, process, step)?;
         let run = end_at(&mut self.present, self.alloc, phase, process, state)?;
         make_room(&mut self.ended, self.present.len())?;
         self.ended.push(run)?;
