@@ -7,7 +7,7 @@ use Rattle.vf_base.specs.Lists.{AllHold}
 use Rattle.v_design.specs.Designs.{FlatDesign, StuckAt, TestPlan}
 use Rattle.v_design.specs.Plain.{grade_of}
 use Rattle.v_design.specs.WellFormed.{KeepsRules}
-use Rattle.shard_windows.specs.graded_steps.Behind.{RisesTwice, fault_steps}
+use Rattle.shard_windows.specs.graded_steps.Behind.{RisesWithin, fault_steps}
 use Rattle.shard_windows.specs.graded_steps.Gradings.{GradingsTakeSteps}
 use Rattle.shard_windows.specs.copy_window.Copies.{differences_in}
 use Rattle.shard_windows.specs.copy_window.ShardFaults.{steps_taken}
@@ -25,27 +25,27 @@ sum_by-seen g (own ∷ faults) =
 -- a shard goes through a window
 pub shard-rises : (design : FlatDesign) (plan : TestPlan) (gone before through ends : ℕ) (kept : ShardKept) (faults old new : List ShardFault) (one other : ℕ) →
     record { gone = gone; faults = map fault_kept faults } ≡ kept → before ≡ kept.gone → ends ≡ through → old ≡ faults →
-    RisesTwice (steps_of_faults design plan before old) (steps_of_faults design plan through new) one other →
-    RisesTwice (shard_steps design plan kept) (shard_steps design plan (record { gone = ends; faults = map fault_kept new })) one other
+    RisesWithin (steps_of_faults tally before old) (steps_of_faults tally through new) one other →
+    RisesWithin (shard_steps tally kept) (shard_steps tally (record { gone = ends; faults = map fault_kept new })) one other
 shard-rises design plan gone before through ends kept faults old new one other view at number same rises =
-    let a : shard_steps design plan kept ≡ steps_of_faults design plan before old =
-    sym (ap (shard_steps design plan) view) ∙ (sum_by-seen (kept_steps design plan gone) faults
-    ∙ (λ i. steps_of_faults design plan ((ap (λ (k : ShardKept). k.gone) view ∙ sym at) i) (sym same i))) in
-    let b : shard_steps design plan (record { gone = ends; faults = map fault_kept new }) ≡ steps_of_faults design plan through new =
-    sum_by-seen (kept_steps design plan ends) new ∙ ap (λ n. steps_of_faults design plan n new) number in
+    let a : shard_steps tally kept ≡ steps_of_faults tally before old =
+    sym (ap (shard_steps tally) view) ∙ (sum_by-seen (kept_steps tally gone) faults
+    ∙ (λ i. steps_of_faults tally ((ap (λ (k : ShardKept). k.gone) view ∙ sym at) i) (sym same i))) in
+    let b : shard_steps tally (record { gone = ends; faults = map fault_kept new }) ≡ steps_of_faults tally through new =
+    sum_by-seen (kept_steps tally ends) new ∙ ap (λ n. steps_of_faults tally n new) number in
     omega (arith, a, b, rises)
 
 -- so far they take no more than in all
 pub all-within : GradingsTakeSteps → (design : FlatDesign) (plan : TestPlan) (gone : ℕ) → KeepsRules design → (faults : List FaultKept) → AllHold (FaultStands design plan gone) faults →
-    sum_by (kept_steps design plan gone) faults ≤ sum_by (fault_steps_at design plan) (places_of faults)
+    sum_by (kept_steps tally gone) faults ≤ sum_by (fault_steps_at tally) (places_of faults)
 all-within take design plan gone rules [] all = omega arith
 all-within take design plan gone rules (kept ∷ faults) all =
-    let rest : sum_by (kept_steps design plan gone) faults ≤ sum_by (fault_steps_at design plan) (places_of faults) = all-within take design plan gone rules faults all.1 in
-    let a : sum_by (kept_steps design plan gone) (kept ∷ faults) ≡ kept_steps design plan gone kept + sum_by (kept_steps design plan gone) faults =
-    sum_by-cons (kept_steps design plan gone) kept faults in
-    let b : sum_by (fault_steps_at design plan) (places_of (kept ∷ faults)) ≡ fault_steps_at design plan kept.copy.fault + sum_by (fault_steps_at design plan) (places_of faults) =
-    sum_by-cons (fault_steps_at design plan) kept.copy.fault (places_of faults) in
-    let one : kept_steps design plan gone kept ≤ fault_steps_at design plan kept.copy.fault = within (slice_get plan.faults kept.copy.fault) all.0.listed in
+    let rest : sum_by (kept_steps tally gone) faults ≤ sum_by (fault_steps_at tally) (places_of faults) = all-within take design plan gone rules faults all.1 in
+    let a : sum_by (kept_steps tally gone) (kept ∷ faults) ≡ kept_steps tally gone kept + sum_by (kept_steps tally gone) faults =
+    sum_by-cons (kept_steps tally gone) kept faults in
+    let b : sum_by (fault_steps_at tally) (places_of (kept ∷ faults)) ≡ fault_steps_at tally kept.copy.fault + sum_by (fault_steps_at tally) (places_of faults) =
+    sum_by-cons (fault_steps_at tally) kept.copy.fault (places_of faults) in
+    let one : kept_steps tally gone kept ≤ fault_steps_at tally kept.copy.fault = within (slice_get plan.faults kept.copy.fault) all.0.listed in
     omega (arith, rest, a, b, one)
   where
     within : (found : Option StuckAt) → found ≡ Some all.0.fault →

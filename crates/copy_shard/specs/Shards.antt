@@ -24,15 +24,15 @@ pub record ShardKept : Type 0 where
 
 -- the process steps that the grading of a fault of a plan takes behind so many slots of the good first run: up to there, or in all, where it ended
 abbrev pub kept_steps : FlatDesign → TestPlan → ℕ → FaultKept → ℕ
-kept_steps design plan gone kept = elim (slice_get plan.faults kept.copy.fault) [ None ↦ 0 | Some fault ↦ steps_taken design plan gone fault kept.end ]
+kept_steps tally gone kept = elim (slice_get plan.faults kept.copy.fault) [ None ↦ 0 | Some fault ↦ steps_taken design plan gone fault kept.end ]
 
 -- those of all faults of a shard
 abbrev pub shard_steps : FlatDesign → TestPlan → ShardKept → ℕ
-shard_steps design plan kept = sum_by (kept_steps design plan kept.gone) kept.faults
+shard_steps tally kept = sum_by (kept_steps tally kept.gone) kept.faults
 
 -- all that the grading of the fault of a number in a plan takes
 abbrev pub fault_steps_at : FlatDesign → TestPlan → ℕ → ℕ
-fault_steps_at design plan number = elim (slice_get plan.faults number) [ None ↦ 0 | Some fault ↦ fault_steps design plan fault ]
+fault_steps_at tally number = elim (slice_get plan.faults number) [ None ↦ 0 | Some fault ↦ fault_steps design plan fault ]
 
 -- the places of some faults in the plan
 abbrev pub places_of : List FaultKept → List ℕ

@@ -37,4 +37,4 @@ module _ {N : Type 0} where
 
   -- the process steps that the gradings of the faults of claimed shards take
   abbrev pub claimed_steps : FlatDesign → TestPlan → List (ClaimedShard N) → ℕ
-  claimed_steps design plan shards = sum_by (λ (claimed : ClaimedShard N). shard_steps design plan claimed.shard) shards
+  claimed_steps tally shards = sum_by (λ (claimed : ClaimedShard N). shard_steps tally claimed.shard) shards

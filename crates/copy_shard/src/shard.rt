@@ -181,7 +181,7 @@ impl<N: World> Shard<N> {
         ensures places { OnOk result (places_of self.new.faults ≡ places_of self.old.faults) }
         ensures ended { OnOk result (AllZip StaysEnded self.old.faults self.new.faults) }
         ensures stands { OnOk result (StandsBeside N.design N.plan self.new) }
-        ensures ticks { OnOk result (RisesTwice (shard_steps N.design N.plan self.old) (shard_steps N.design N.plan self.new) steps.old steps.new) }
+        ensures ticks { OnOk result (RisesOwn N.design N.plan (λ tally. shard_steps tally self.old) (λ tally. shard_steps tally self.new) steps.old steps.new) }
         ensures err { OnErr result (self.new ≡ record self.old { faults = [] }) }
     {
         let numbers = mem::replace(&mut self.numbers, Vec::new(alloc));

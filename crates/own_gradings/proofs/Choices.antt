@@ -5,7 +5,7 @@ use Rattle.std.proofs.lemmas.Bool.{cases_lt, eqb-true, eqb-false, leb-true, leb-
 use Rattle.std.proofs.lemmas.List.Sums.{sum_by-cons}
 use Rattle.std.proofs.lemmas.Option.{slice_get_cases, slice_get_past, slice_get_within}
 use Rattle.v_design.specs.Designs.{FlatDesign, StuckAt, TestPlan}
-use Rattle.v_design.specs.OwnSteps.{CountsOwn, ProcessRun}
+use Rattle.v_design.specs.OwnSteps.{CountsOwn, ProcessRun, runs_beside}
 use Rattle.v_design.specs.Runs.{FirstSlot}
 use Rattle.copy_laws.specs.Windows.{good_slots, runs_between, time_at}
 use Rattle.fault_strobes.specs.Said.{plan_by}
@@ -119,39 +119,62 @@ module _ (design : FlatDesign) (plan : TestPlan) where
       (λ gone none. counted (runs_to design plan kept gone fault) (λ found. none (record { choice = found.steps; holds = found.own })))
       (λ found. none (row-by fault kept found))
 
-  -- of the fault of a number, if it is listed
-  abbrev IsOf : ℕ → (Bool → ℕ → ℕ) → Type 0
-  IsOf number steps = (fault : StuckAt) → slice_get plan.faults number ≡ Some fault → (kept : Bool) → IsRow fault kept (steps kept)
+  -- what a fault takes in all, too
+  record Numbers (fault : StuckAt) (kept : Bool) : Type 0 where
+    row : Row fault kept
+    all : ℕ
+    in_all : AreOwnSteps (runs_beside design (plan_by kept plan) fault) all
 
-  of-fault : (number : ℕ) (fault : StuckAt) → slice_get plan.faults number ≡ Some fault → Row fault true → Row fault false → Some_of IsOf number
-  of-fault number fault is kept-row judged-row = record {
-    choice = λ kept. cond kept kept-row.at judged-row.at;
-    holds = λ named named-is kept. go named (some-is fault named (sym is ∙ named-is)) kept;
-  }
+  numbers : (fault : StuckAt) (kept : Bool) → NotNone (Numbers fault kept)
+  numbers fault kept none =
+      row fault kept (λ found. counted (runs_beside design (plan_by kept plan) fault) (λ whole. none (record { row = found; all = whole.steps; in_all = whole.own })))
+
+  -- of the fault of a number, if it is listed
+  record Choice : Type 0 where
+    steps : Bool → ℕ → ℕ
+    all : Bool → ℕ
+
+  record AreOf (fault : StuckAt) (kept : Bool) (choice : Choice) : Type 0 where
+    are : IsRow fault kept (choice.steps kept)
+    in_all : AreOwnSteps (runs_beside design (plan_by kept plan) fault) (choice.all kept)
+
+  abbrev IsOf : ℕ → Choice → Type 0
+  IsOf number choice = (fault : StuckAt) → slice_get plan.faults number ≡ Some fault → (kept : Bool) → AreOf fault kept choice
+
+  of-fault : (number : ℕ) (fault : StuckAt) → slice_get plan.faults number ≡ Some fault → Numbers fault true → Numbers fault false → Some_of IsOf number
+  of-fault number fault is kept-ones judged-ones = record { choice = both; holds = λ named named-is kept. go named (some-is fault named (sym is ∙ named-is)) kept }
     where
+      both : Choice
+      both = record { steps = λ kept. cond kept kept-ones.row.at judged-ones.row.at; all = λ kept. cond kept kept-ones.all judged-ones.all }
+
       some-is : (one other : StuckAt) → Some one ≡ Some other → one ≡ other
       some-is one other same = cc
 
-      by-fault : (kept : Bool) → IsRow fault kept (cond kept kept-row.at judged-row.at)
-      by-fault true = kept-row.are
-      by-fault false = judged-row.are
+      by-fault : (kept : Bool) → AreOf fault kept both
+      by-fault true = record { are = kept-ones.row.are; in_all = kept-ones.in_all }
+      by-fault false = record { are = judged-ones.row.are; in_all = judged-ones.in_all }
 
-      go : (named : StuckAt) → fault ≡ named → (kept : Bool) → IsRow named kept (cond kept kept-row.at judged-row.at)
-      go named same kept = subst (λ (f : StuckAt). IsRow f kept (cond kept kept-row.at judged-row.at)) same (by-fault kept)
+      go : (named : StuckAt) → fault ≡ named → (kept : Bool) → AreOf named kept both
+      go named same kept = subst (λ (f : StuckAt). AreOf f kept both) same (by-fault kept)
 
   of-none : (number : ℕ) → slice_get plan.faults number ≡ None → Some_of IsOf number
-  of-none number none = record { choice = λ kept gone. 0; holds = λ named is. absurd (no named (sym none ∙ is)) }
+  of-none number none = record { choice = record { steps = λ kept gone. 0; all = λ kept. 0 }; holds = λ named is. absurd (no-one named (sym none ∙ is)) }
     where
-      no : (named : StuckAt) → None ≡ Some named → ⊥
-      no named same = cc
+      no-one : (named : StuckAt) → None ≡ Some named → ⊥
+      no-one named same = cc
 
   listed : (number : ℕ) → NotNone (Some_of IsOf number)
   listed number none = elim (slice_get_cases plan.faults number).1 [
-    | inl found ↦ row found.0 true (λ one. row found.0 false (λ other. none (of-fault number found.0 found.2 one other)))
+    | inl found ↦ numbers found.0 true (λ one. numbers found.0 false (λ other. none (of-fault number found.0 found.2 one other)))
     | inr past ↦ none (of-none number past.1)
   ]
 
   pub exist : NotNone (OwnStepsOf design plan)
   exist none =
-      chosen IsOf (λ kept gone. 0) (length plan.faults) listed
-      (λ found. none (record { steps = found.at; are = λ number fault kept gone is. found.each number (slice_get_within plan.faults number fault is) fault is kept gone }))
+      chosen IsOf (record { steps = λ kept gone. 0; all = λ kept. 0 }) (length plan.faults) listed
+      (λ found. none (record {
+        steps = λ number. (found.at number).steps;
+        are = λ number fault kept gone is. (found.each number (slice_get_within plan.faults number fault is) fault is kept).are gone;
+        all = λ number. (found.at number).all;
+        in_all = λ number fault kept is. (found.each number (slice_get_within plan.faults number fault is) fault is kept).in_all;
+      }))

@@ -188,13 +188,18 @@ module _ (good : GoodRunGoesOn) (design : FlatDesign) (plan : TestPlan) (own : O
       let total = found.2 in
       omega (arith, none, total)
 
-  pub within : (gone all : ℕ) → TakesOwnSteps design (plan_by kept plan) fault all → own.steps number kept gone ≤ all
-  within gone all takes =
-      let part = to-end design (plan_by kept plan) fault (time_at design plan gone) all (record { counts = takes.counts; each = takes.each; total = takes.total }) in
+  pub within : (gone : ℕ) → own.steps number kept gone ≤ own.all number kept
+  within gone =
+      let part = to-end design (plan_by kept plan) fault (time_at design plan gone) (own.all number kept) (own.in_all number fault kept is) in
       let same : part.left ≡ own.steps number kept gone =
       same-steps (runs_to design plan kept gone fault) part.left (own.steps number kept gone) part.first (own.are number fault kept gone is) in
       let total = part.total in
       omega (arith, same, total)
+
+  pub all-steps : (steps : ℕ) → TakesOwnSteps design (plan_by kept plan) fault steps → own.all number kept ≡ steps
+  all-steps steps takes =
+      same-steps (runs_beside design (plan_by kept plan) fault) (own.all number kept) steps (own.in_all number fault kept is)
+      (record { counts = takes.counts; each = takes.each; total = takes.total })
 
 slot-of : (design : FlatDesign) (plan : TestPlan) (fault : StuckAt) (from until : Option ℕ) (behind ahead : List FirstSlot) (slot : FirstSlot) (steps : ℕ) →
     first_run (faulty_machine design fault) plan.end ≡ behind ++ slot ∷ ahead → comes_after from slot.begins.time ≡ true → comes_by until slot.begins.time ≡ true →
@@ -211,7 +216,8 @@ own_steps_rise good = record {
   stretch = λ design plan own number fault kept from until before after is rules low rise. stretch good design plan own number fault kept is from until before after rules low rise;
   between = λ design plan own number fault kept from until counts is rules low each. between good design plan own number fault kept is from until counts rules low each;
   over = λ design plan own number fault kept from until time is rules low at ended. over good design plan own number fault kept is from until time rules low at ended;
-  within = λ design plan own number fault kept gone all is takes. within good design plan own number fault kept is gone all takes;
+  within = λ design plan own number fault kept gone is. within good design plan own number fault kept is gone;
+  total = λ design plan own number fault kept steps is takes. all-steps good design plan own number fault kept is steps takes;
   exist = λ design plan low high bound. bound-holds low high (λ fails. exist design plan (λ own. fails (bound own)));
   slot = slot-of;
 }

@@ -31,9 +31,11 @@ pub record OwnStepsRise : Type 0 where
   -- behind the end of its grading a fault takes none
   pub over : (design : FlatDesign) (plan : TestPlan) (own : OwnStepsOf design plan) (number : ℕ) (fault : StuckAt) (kept : Bool) (from until time : ℕ) → slice_get plan.faults number ≡ Some fault →
       KeepsRules design → from ≤ until → time_at design plan from ≡ Some time → HasEnded design (plan_by kept plan) fault time → own.steps number kept until ≡ own.steps number kept from
-  -- and at no time more than to its end
-  pub within : (design : FlatDesign) (plan : TestPlan) (own : OwnStepsOf design plan) (number : ℕ) (fault : StuckAt) (kept : Bool) (gone all : ℕ) → slice_get plan.faults number ≡ Some fault →
-      TakesOwnSteps design (plan_by kept plan) fault all → own.steps number kept gone ≤ all
+  -- and at no time more than to its end; these are all
+  pub within : (design : FlatDesign) (plan : TestPlan) (own : OwnStepsOf design plan) (number : ℕ) (fault : StuckAt) (kept : Bool) (gone : ℕ) → slice_get plan.faults number ≡ Some fault →
+      own.steps number kept gone ≤ own.all number kept
+  pub total : (design : FlatDesign) (plan : TestPlan) (own : OwnStepsOf design plan) (number : ℕ) (fault : StuckAt) (kept : Bool) (steps : ℕ) → slice_get plan.faults number ≡ Some fault →
+      TakesOwnSteps design (plan_by kept plan) fault steps → own.all number kept ≡ steps
   -- there are such numbers, as far as any bound is concerned
   pub exist : (design : FlatDesign) (plan : TestPlan) (low high : ℕ) → (OwnStepsOf design plan → low ≤ high) → low ≤ high
   -- a slot of a stretch, not after the end of the grading: what it counts at least the stretch does

@@ -5,7 +5,7 @@ use Rattle.std.specs.List.{list_any}
 use Rattle.std.proofs.lemmas.List.Sums.{sum_by-cons}
 use Rattle.v_design.specs.Designs.{FlatDesign, StuckAt, TestPlan}
 use Rattle.v_design.specs.WellFormed.{KeepsRules}
-use Rattle.shard_slots.specs.graded_steps.Behind.{RisesTwice, RisesWithin}
+use Rattle.shard_slots.specs.graded_steps.Behind.{RisesWithin, RisesWithin}
 use Rattle.shard_slots.specs.graded_steps.Gradings.{GradingsTakeSteps}
 use Rattle.shard_slots.specs.copy_window.ShardFaults.{IsShardFault, SameFault, steps_taken}
 use Rattle.shard_slots.specs.copy_window.declared.fault.ShardFault.{ShardFault}
@@ -15,14 +15,14 @@ use Rattle.shard_windows.specs.Reached.{is_open}
 
 -- A fault
 
-pub same-rises : (from until counter : ℕ) → from ≡ until → RisesTwice from until counter counter
+pub same-rises : (from until counter : ℕ) → from ≡ until → RisesWithin from until counter counter
 same-rises from until counter same = omega (arith, same)
 
 -- one that began is graded through a window
 pub begins-rise : GradingsTakeSteps → (design : FlatDesign) (plan : TestPlan) → KeepsRules design → (before through passed behind : ℕ) (old new : ShardFault) (fault : StuckAt) (one other : ℕ) →
     before ≤ through → slice_get plan.faults old.copy.fault ≡ Some fault → old.end ≡ None → SameFault old new → IsShardFault design plan before passed old →
     IsShardFault design plan through behind new → RisesWithin (steps_taken design plan before fault None) (steps_taken design plan through fault new.end) one other →
-    RisesTwice (steps_of_fault design plan before old) (steps_of_fault design plan through new) one other
+    RisesWithin (steps_of_fault tally before old) (steps_of_fault tally through new) one other
 begins-rise take design plan rules before through passed behind old new fault one other low listed none place stood stands rises =
     let a = steps-open design plan before old fault listed none in
     let b = steps-are design plan through new fault (ap (slice_get plan.faults) place.number ∙ listed) in
@@ -33,15 +33,15 @@ begins-rise take design plan rules before through passed behind old new fault on
 
 -- where the grading of none goes on they take no more
 pub taken-ended : (design : FlatDesign) (plan : TestPlan) (from until : ℕ) (faults : List ShardFault) → list_any is_open faults ≡ false →
-    steps_of_faults design plan from faults ≡ steps_of_faults design plan until faults
+    steps_of_faults tally from faults ≡ steps_of_faults tally until faults
 taken-ended design plan from until [] none = refl
 taken-ended design plan from until (own ∷ faults) none =
     let each = both (is_some own.end) (list_any is_open faults) none in
     let one = steps-ended design plan from until own each.0 in
     let rest = taken-ended design plan from until faults each.1 in
-    let a : steps_of_faults design plan from (own ∷ faults) ≡ steps_of_fault design plan from own + steps_of_faults design plan from faults = sum_by-cons (steps_of_fault design plan from) own faults in
-    let b : steps_of_faults design plan until (own ∷ faults) ≡ steps_of_fault design plan until own + steps_of_faults design plan until faults =
-    sum_by-cons (steps_of_fault design plan until) own faults in
+    let a : steps_of_faults tally from (own ∷ faults) ≡ steps_of_fault tally from own + steps_of_faults tally from faults = sum_by-cons (steps_of_fault tally from) own faults in
+    let b : steps_of_faults tally until (own ∷ faults) ≡ steps_of_fault tally until own + steps_of_faults tally until faults =
+    sum_by-cons (steps_of_fault tally until) own faults in
     omega (arith, one, rest, a, b)
   where
     both : (ended some : Bool) → (not ended || some) ≡ false → (ended ≡ true) × (some ≡ false)

@@ -105,9 +105,9 @@ returns-clause-ticks g t c =
     let plan = g.N.World.plan in
     let at = all-last (HasGone c.args.window.now.before) c.pop.new.self.items c.args.shards.now.items c.in-Some.claimed c.in-Some.ensures.items c.requires.gone in
     let gone_is = c.ends-gone.ensures.number ∙ ap (λ (w : WindowKept). w.through) c.window-trace.ensures in
-    let rest : steps_of_faults design plan c.args.window.now.through c.leave_shard.new.faults.items
-    ≡ steps_of_faults design plan c.args.window.now.through (take c.len-first.result c.advance_rest.new.faults.items) =
-    ap (steps_of_faults design plan c.args.window.now.through) c.in_ok-shard.ensures.faults in
+    let rest : steps_of_faults tally c.args.window.now.through c.leave_shard.new.faults.items
+    ≡ steps_of_faults tally c.args.window.now.through (take c.len-first.result c.advance_rest.new.faults.items) =
+    ap (steps_of_faults tally c.args.window.now.through) c.in_ok-shard.ensures.faults in
     let rises = shards-rise design plan c.in-Some.claimed.shard c.args.faults.now.items c.join_shard.new.faults.items c.advance_rest.new.faults.items c.in_ok-joined.joined c.args.window.now.through
     c.len-first.result c.in_ok-behind-2.behind c.in_ok-joined.ensures c.in_ok-behind-2.ensures.faults c.in_ok-behind-2.ensures.reached (omega (arith, size, c.len-first.ensures))
     c.args.window.now.before c.in-Some.claimed.number c.ends-gone.result c.args.shards.now.items c.pop.new.self.items c.advance_rest.new.shards.items c.push.new.self.items c.args.steps.now

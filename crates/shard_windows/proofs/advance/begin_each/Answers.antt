@@ -12,7 +12,7 @@ pub faults-init : goal.faults-init
 faults-init g c = record {
   changed = changed-none (ComesThrough g.N.World.design g.N.World.plan c.args.window.now.through (passed_behind c.args.strobes.now)) c.args.faults.now.items;
   ticks =
-      (let none = mixed-none (steps_of_fault g.N.World.design g.N.World.plan c.args.window.now.before) (steps_of_fault g.N.World.design g.N.World.plan c.args.window.now.through) c.args.faults.now.items in
+      (let none = mixed-none (steps_of_fault tally c.args.window.now.before) (steps_of_fault tally c.args.window.now.through) c.args.faults.now.items in
       omega (arith, none));
 }
 
@@ -31,8 +31,8 @@ begin_one-requires-clause-fault g c κs within =
 pub faults-preserved : goal.faults-preserved
 faults-preserved g c =
     let R = ComesThrough g.N.World.design g.N.World.plan c.args.window.now.through (passed_behind c.args.strobes.now) in
-    let f = steps_of_fault g.N.World.design g.N.World.plan c.args.window.now.before in
-    let h = steps_of_fault g.N.World.design g.N.World.plan c.args.window.now.through in
+    let f = steps_of_fault tally c.args.window.now.before in
+    let h = steps_of_fault tally c.args.window.now.through in
     let same = changed-length R c.faults.place c.args.faults.now.items c.faults.faults.items c.faults.invariant.changed in
     let more = mixed-more f h c.faults.place c.faults.faults.items c.index_mut-own.result.now c.begin_one.new.own (omega (arith, c.faults-test.true, c.len-place-end.ensures, same))
     c.index_mut-own.ensures.value in
@@ -51,6 +51,6 @@ pub returns-clause-ticks : goal.returns-clause-ticks
 returns-clause-ticks g c =
     let R = ComesThrough g.N.World.design g.N.World.plan c.args.window.now.through (passed_behind c.args.strobes.now) in
     let same = changed-length R c.faults.place c.args.faults.now.items c.faults.faults.items c.faults.invariant.changed in
-    let all = mixed-all (steps_of_fault g.N.World.design g.N.World.plan c.args.window.now.before) (steps_of_fault g.N.World.design g.N.World.plan c.args.window.now.through) c.faults.place
+    let all = mixed-all (steps_of_fault tally c.args.window.now.before) (steps_of_fault tally c.args.window.now.through) c.faults.place
     c.faults.faults.items (omega (arith, c.faults-test.false, c.len-place-end.ensures, same)) in
     omega (arith, all, c.faults.invariant.ticks)
