@@ -1,21 +1,22 @@
 -- The own steps of the slot that a fault entered in lockstep (steps by IEEE 1364-2001, clause 9; slots by clause 5).
 use Rattle.std.proofs.Common.{◌≡◌, ℕ, zero, suc, ◌+◌, ◌-◌, ◌<◌, ◌≤◌, Bool, true, false, cond, List, [], ◌∷◌, ◌++◌, length, take, drop, refl, sym, ap, subst, ◌∙◌, arith, inl, inr}
-use Rattle.std.specs.Prelude.{◌≢◌, ◌⊎◌, Option, Some, None, find, nat_eq, slice_get}
+use Rattle.std.specs.Prelude.{◌≢◌, ◌⊎◌, Option, Some, None, find, nat_eq, nat_le, slice_get}
 use Rattle.std.specs.List.{AllZip, sum}
 use Rattle.std.proofs.lemmas.Bool.{cases_lt, eq-eqb, eqb-true, le-leb, lt-ltb}
 use Rattle.std.proofs.lemmas.List.{append-nil}
 use Rattle.std.proofs.lemmas.Option.{slice_get_cases}
 use Rattle.vf_base.specs.Lists.{AllHold}
 use Rattle.v_design.specs.Designs.{FlatDesign, Machine, StuckAt, TestPlan, good_machine, faulty_machine}
-use Rattle.v_design.specs.Grades.{Fine, Hyper, Race, SlotOutcome, slot_outcome}
+use Rattle.v_design.specs.Grades.{Fine, Hyper, Race, SlotOutcome, phases, slot_outcome}
 use Rattle.v_design.specs.OwnSteps.{CountsOwn, ProcessRun, slots_through_stop}
-use Rattle.v_design.specs.Runs.{FirstSlot, first_run}
-use Rattle.v_design.specs.States.{State}
+use Rattle.v_design.specs.Runs.{FirstSlot, first_run, next_slot_at, only_if}
+use Rattle.v_design.specs.States.{PostponedTurn, State, TimeTurn, TurnKind, UpdatesTurn, time_turn, turn_of}
 use Rattle.v_design.specs.WellFormed.{KeepsRules}
 use Rattle.order_laws.specs.FirstRuns.{FirstRunsGoOn, Follow, Rise}
 use Rattle.machine_laws.specs.SlotLoop.{slot_from}
 use Rattle.own_gradings.specs.Laws.{OwnStepsRise}
-use Rattle.own_slots.specs.Slots.{TriedStepsGoOn}
+use Rattle.own_counts.specs.Joins.{fault_end}
+use Rattle.own_slots.specs.Slots.{TriedStepsGoOn, WereTried}
 use Rattle.good_runs.specs.declared.tried.TriedStep.{TriedStep}
 use Rattle.lockstep_due.specs.graded_steps.Ahead.{RunsTakeSteps, SlotsAhead}
 use Rattle.copy_laws.specs.Windows.{HasEnded, IsThrough, IsOpen, IsRaced, IsWindow, RiseAtMostOwn, WindowEnd, comes_after, comes_by, good_slots, runs_between, state_at, time_at}
@@ -28,7 +29,10 @@ use Rattle.beside_laws.specs.Stands.{RunsGoOn}
 use Rattle.lockstep_due.specs.lockstep_copies.Copies.{BeginNextInLockstep, CopiesGoInLockstep, own_begins}
 use Rattle.lockstep_due.proofs.lockstep_shards.Laws.{stops-earlier}
 use Rattle.lockstep_due.specs.window_strobes.Neighbours.{time-between, time-by}
+use Rattle.lockstep_due.specs.machine.Standing.{BeginsInFirstRun, StandsBetween, slot_after}
+use Rattle.lockstep_due.specs.copy_window.Copies.{differences_in}
 use Rattle.lockstep_due.specs.copy_window.ShardFaults.{kept_by, said_by}
+use Rattle.lockstep_due.specs.copy_window.Tried.{WasTried}
 use Rattle.lockstep_due.specs.copy_window.declared.fault.ShardFault.{ShardFault}
 use Rattle.lockstep_slot.specs.lockstep_block.Blocks.{TriedInSlot}
 use Rattle.lockstep_slot.specs.slot_laws.Copies.{MayBeginSlot, lockstep_differences}
@@ -54,6 +58,26 @@ pub record StepLaws : Type 0 where
   pub first : FirstRunsGoOn
   pub good : GoodRunGoesOn
   pub windows : WindowsEnd
+
+some-state : (one other : State) → Some one ≡ Some other → one ≡ other
+some-state one other same = cc
+
+some-time : (one other : ℕ) → Some one ≡ Some other → one ≡ other
+some-time one other same = cc
+
+some-fault : (one other : StuckAt) → Some one ≡ Some other → one ≡ other
+some-fault one other same = cc
+
+-- the slot to which a turn leads up to a time is the one to which it leads
+after-next : (end : ℕ) (state : State) (turn : Option TurnKind) (begins : State) → next_slot_at end state turn ≡ Some begins → slot_after state turn ≡ Some begins
+after-next end state None begins is = cc
+after-next end state (Some PostponedTurn) begins is = cc
+after-next end state (Some UpdatesTurn) begins is = cc
+after-next end state (Some (TimeTurn time)) begins is = go (nat_le time end) is
+  where
+    go : (b : Bool) → only_if b (time_turn time state) ≡ Some begins → Some (time_turn time state) ≡ Some begins
+    go true e = e
+    go false e = cc
 
 -- The good machine's slot of a time
 
@@ -173,11 +197,13 @@ module _ (law : StepLaws) (design : FlatDesign) (plan : TestPlan) (fault : Stuck
 
   -- It comes after the slot before, and up to this one
 
+  time-there : time_at design plan gone ≡ Some may.lockstep.last.begins.time
+  time-there = time-between design plan gone (record { number = may.before; last = may.lockstep.last; next = may.slot; at_is = may.number_is; here = may.lockstep.stands; there = there })
+
   comes-since : comes_after (time_at design plan gone) time ≡ true
   comes-since =
       let since : may.lockstep.last.begins.time ≤ may.time = may.lockstep.since in
-      subst (λ (t : Option ℕ). comes_after t time ≡ true)
-      (sym (time-between design plan gone (record { number = may.before; last = may.lockstep.last; next = may.slot; at_is = may.number_is; here = may.lockstep.stands; there = there })))
+      subst (λ (t : Option ℕ). comes_after t time ≡ true) (sym time-there)
       (lt-ltb may.lockstep.last.begins.time time (omega (arith, since, early)))
 
   comes-up : comes_by (time_at design plan (suc gone)) time ≡ true
@@ -236,9 +262,6 @@ module _ (law : StepLaws) (design : FlatDesign) (plan : TestPlan) (fault : Stuck
       (law.runs.stands (faulty_machine design fault) plan.end (time - 1) (Some begins) state
       (law.runs.passes (faulty_machine design fault) plan.end (Some may.time) (Some begins) state (time - 1) next.own_next (omega (arith, early))
       (λ found is. (let same : time ≡ found.time = ap (λ (s : State). s.time) (some-state begins found is) in omega (arith, same, early))))).1
-    where
-      some-state : (one other : State) → Some one ≡ Some other → one ≡ other
-      some-state one other same = cc
 
   not-ended : HasNotEnded design P fault (time - 1)
   not-ended =
@@ -280,14 +303,65 @@ module _ (law : StepLaws) (design : FlatDesign) (plan : TestPlan) (fault : Stuck
       find-at (first_run (good_machine design) plan.end) gone may.slot (law.first.rise (good_machine design) plan.end rules)
       (through-get (good_machine design) (first_run (good_machine design) plan.end) gone may.slot may.stands)
 
+  -- It begins in the faulty machine's first run
+
+  -- behind the slot before the faulty machine stands as it does at the time before this one
+  from-there : BeginNextInLockstep design plan fault en.may.time (differences_in design old.copy) may.slot
+  from-there =
+      law.copies.begins design plan fault en.may.number en.may.time (differences_in design old.copy) may.slot en.may.lockstep
+      (ap (slice_get (good_slots design plan)) (sym en.may.gone_is) ∙ may.stands)
+
+  abbrev first-begins : State
+  first-begins = own_begins design plan fault en.may.time may.slot
+
+  low : en.may.time ≤ may.time
+  low =
+      let same : en.may.time ≡ may.lockstep.last.begins.time =
+      some-time en.may.time may.lockstep.last.begins.time (sym en.may.behind.time_is ∙ (ap (time_at design plan) (sym en.may.gone_is) ∙ time-there)) in
+      let since : may.lockstep.last.begins.time ≤ may.time = may.lockstep.since in
+      omega (arith, same, since)
+
+  same-state : state ≡ state_at (faulty_machine design fault) plan.end en.may.time
+  same-state =
+      (law.runs.stands (faulty_machine design fault) plan.end may.time (Some first-begins) (state_at (faulty_machine design fault) plan.end en.may.time)
+      (law.runs.passes (faulty_machine design fault) plan.end (Some en.may.time) (Some first-begins) (state_at (faulty_machine design fault) plan.end en.may.time) may.time from-there.own_next low
+      (λ found is. (let same : time ≡ found.time = ap (λ (s : State). s.time) (some-state first-begins found is) in omega (arith, same, early))))).0
+
+  there-fault : en.may.behind.stands.fault ≡ fault
+  there-fault = some-fault en.may.behind.stands.fault fault (sym en.may.behind.stands.listed ∙ en.may.behind.listed)
+
+  stands-between : StandsBetween (faulty_machine design fault) (state_at (faulty_machine design fault) plan.end en.may.time)
+  stands-between =
+      subst (λ (f : StuckAt). StandsBetween (faulty_machine design f) (state_at (faulty_machine design f) plan.end en.may.time)) there-fault
+      (en.may.behind.stands.goes_on en.may.time en.may.behind.time_is en.may.behind.more en.may.behind.none).between
+
+  in-run : BeginsInFirstRun (faulty_machine design fault) begins
+  in-run =
+      subst (BeginsInFirstRun (faulty_machine design fault)) (sym (ap (time_turn time) same-state))
+      (stands-between.reached first-begins
+      (after-next plan.end (state_at (faulty_machine design fault) plan.end en.may.time) (turn_of (state_at (faulty_machine design fault) plan.end en.may.time)) first-begins from-there.own_turns))
+
   module _ (tried : List TriedStep) (own : TriedInSlot design fault may.slot begins tried) where
+    were : WereTried (good_machine design) (faulty_machine design fault) (phases (good_machine design) may.slot) begins tried
+    were = record { to = own.to; comes = own.comes; begins_is = own.begins_is; own = own.so_far }
+
+    pub takes-again : WasTried design P gone fault tried
+    takes-again = record {
+      slot = may.slot;
+      stands = may.stands;
+      begins = begins;
+      at_time = refl;
+      in_run = in-run;
+      within = since (fault_end design P fault) (omega arith);
+      were = were;
+    }
+
     pub takes : (counter : ℕ) → RiseAtMostOwn design P gone (suc gone) (fault ∷ []) counter (counter + length tried)
     takes counter counts each =
         let one =
         law.rise.slot design P fault (time_at design plan gone) (time_at design plan (suc gone)) among.behind among.ahead (slot_from (faulty_machine design fault) begins) (length tried) among.are
         comes-since comes-up since
-        (law.tried.within (good_machine design) (faulty_machine design fault) (first_run (good_machine design) plan.end) (Some may.slot) begins tried good-found
-        (record { to = own.to; comes = own.comes; begins_is = own.begins_is; own = own.so_far }))
+        (law.tried.within (good_machine design) (faulty_machine design fault) (first_run (good_machine design) plan.end) (Some may.slot) begins tried good-found were)
         counts
         (subst (λ (l : List (Option ProcessRun × ProcessRun)). AllZip CountsOwn l counts)
         (append-nil (runs_between design P (time_at design plan gone) (time_at design plan (suc gone)) fault)) each) in
@@ -296,4 +370,5 @@ module _ (law : StepLaws) (design : FlatDesign) (plan : TestPlan) (fault : Stuck
 pub slots-take : StepLaws → SlotsTakeOwn
 slots-take law = record {
   entered = λ design plan fault gone before passed possible copy own tried counter en may in_slot. takes law design plan fault gone before passed possible copy own en may tried in_slot counter;
+  again = λ design plan fault gone before passed possible copy own tried en may in_slot. takes-again law design plan fault gone before passed possible copy own en may tried in_slot;
 }

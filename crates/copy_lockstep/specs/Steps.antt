@@ -6,6 +6,7 @@ use Rattle.copy_state.specs.Kept.{CopyKept}
 use Rattle.fault_strobes.specs.Said.{plan_by}
 use Rattle.good_runs.specs.declared.tried.TriedStep.{TriedStep}
 use Rattle.lockstep_due.specs.copy_window.ShardFaults.{kept_by}
+use Rattle.lockstep_due.specs.copy_window.Tried.{WasTried}
 use Rattle.lockstep_due.specs.copy_window.declared.fault.ShardFault.{ShardFault}
 use Rattle.lockstep_due.specs.lockstep_copies.Copies.{own_begins}
 use Rattle.lockstep_slot.specs.lockstep_block.Blocks.{TriedInSlot}
@@ -18,3 +19,7 @@ pub record SlotsTakeOwn : Type 0 where
       EntersSlot design plan fault gone before own passed possible → (may : MayBeginSlot design plan fault gone copy) →
       TriedInSlot design fault may.slot (own_begins design plan fault may.time may.slot) tried →
       RiseAtMostOwn design (plan_by (kept_by own) plan) gone (suc gone) (fault ∷ []) counter (counter + length tried)
+  -- where the slot is run whole, they needn't be taken again
+  pub again : (design : FlatDesign) (plan : TestPlan) (fault : StuckAt) (gone before passed : ℕ) (possible : Option ℕ) (copy : CopyKept) (own : ShardFault) (tried : List TriedStep) →
+      EntersSlot design plan fault gone before own passed possible → (may : MayBeginSlot design plan fault gone copy) →
+      TriedInSlot design fault may.slot (own_begins design plan fault may.time may.slot) tried → WasTried design (plan_by (kept_by own) plan) gone fault tried

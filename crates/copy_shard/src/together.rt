@@ -3,7 +3,7 @@
 ghost use Rattle.std.specs.Prelude.{◌≡◌, ◌+◌, ◌≤◌, true, false, All, drop, length, map, take, IfOk, OnOk};
 ghost use Rattle.std.specs.List.{AllZip, list_any};
 ghost use Rattle.vf_base.specs.Lists.{AllHold};
-ghost use Rattle.shard_windows.specs.graded_steps.Behind.{RisesTwice};
+ghost use Rattle.own_gradings.specs.Numbers.{RisesOwn};
 ghost use Rattle.shard_windows.specs.copy_window.ShardFaults.{IsShardFault};
 ghost use Rattle.shard_windows.specs.window_faults.Steps.{steps_of_faults};
 ghost use Rattle.shard_windows.specs.window_faults.Within.{ComesThrough};

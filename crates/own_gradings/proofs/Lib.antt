@@ -1,3 +1,3 @@
-mod Counts
+pub mod Counts
 mod Choices
 mod Rising

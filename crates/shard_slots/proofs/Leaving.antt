@@ -11,6 +11,7 @@ use Rattle.own_gradings.specs.Laws.{OwnStepsRise}
 use Rattle.own_gradings.specs.Numbers.{OwnStepsOf}
 use Rattle.copy_lockstep.specs.graded_steps.Behind.{RisesWithin}
 use Rattle.copy_lockstep.specs.copy_window.ShardFaults.{SameFault, kept_by}
+use Rattle.copy_lockstep.specs.copy_window.Tried.{MayTry}
 use Rattle.copy_lockstep.specs.copy_window.declared.fault.ShardFault.{ShardFault}
 use Rattle.copy_lockstep.specs.phase_faults.declared.beside.FaultBeside.{FaultBeside}
 use Rattle.copy_lockstep.specs.Steps.{SlotsTakeOwn}
@@ -52,6 +53,14 @@ module _ (law : OwnStepsRise) (design : FlatDesign) (plan : TestPlan) (rules : K
       RisesWithin (steps_of_fault tally (before + slot) own) (steps_of_fault tally (before + (slot + 1)) new) one (other + length beside.one.tried.items)
   whole-within tally new one other place rises =
       counter-rises law design plan rules tally (before + slot) (before + (slot + 1)) (omega arith) own new (fault_of beside.fault) one (other + length beside.one.tried.items) went.listed place rises
+
+-- what it took itself in the slot may stand in for the same steps where it is run whole through it
+pub may-try : SlotsTakeOwn → (design : FlatDesign) (plan : TestPlan) (before through slot : ℕ) (own : ShardFault) (at : FaultAt) (beside : FaultBeside) →
+    WentThrough design plan before through slot own at beside → MayTry design (plan_by (kept_by own) plan) (before + slot) (fault_of beside.fault) beside.one.tried.items
+may-try took design plan before through slot own at beside went = elim went.tried [
+  | inl none ↦ inl none
+  | inr some ↦ inr (took.again design plan (fault_of beside.fault) (before + slot) at.passed at.seen at.possible some.1.copy own beside.one.tried.items some.1.enters some.1.may some.1.in_slot)
+]
 
 -- All faults
 

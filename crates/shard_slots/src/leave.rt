@@ -83,7 +83,7 @@ fn leave_one<N: World, L: Ledger>(
     // What it took itself in the slot isn't taken again.
     let FaultInSlot { tried, .. } = one;
     let came = run_whole(
-        alloc, setup, window, strobes, fault, machine, log, own, *at, &tried, steps,
+        alloc, setup, window, strobes, fault, &tried, machine, log, own, *at, steps,
     )?;
     *at = came;
     Ok(())

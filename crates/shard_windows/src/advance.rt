@@ -3,7 +3,7 @@
 ghost use Rattle.std.specs.Prelude.{◌≡◌, IfOk, OnOk};
 ghost use Rattle.std.specs.List.{AllZip, list_any};
 ghost use Rattle.vf_base.specs.Lists.{AllHold};
-ghost use Rattle.shard_slots.specs.graded_steps.Behind.{RisesTwice};
+ghost use Rattle.own_gradings.specs.Numbers.{RisesOwn};
 ghost use Rattle.shard_slots.specs.window_strobes.Passed.{HasPassed};
 ghost use Rattle.shard_slots.specs.window_strobes.Strobes.{AreStrobesOf, passed_behind};
 ghost use Rattle.shard_slots.specs.copy_window.ShardFaults.{IsShardFault};
@@ -41,7 +41,7 @@ fn begin_one<N: World, L: Ledger>(
     ensures ticks { OnOk result (RisesOwn N.design N.plan (λ tally. steps_of_fault tally window.now.before own.old) (λ tally. steps_of_fault tally window.now.through own.new) steps.old steps.new) }
 {
     beside_laws::faults_go_on();
-    shard_slots::gradings_take_steps();
+    own_gradings::own_steps_rise();
     let design = setup.design();
     let _first = window.begins();
     if own.end.is_some() {
@@ -141,6 +141,7 @@ pub fn advance_all<'d, N: World, L: Ledger>(
         steps.old steps.new) }
 {
     beside_laws::faults_go_on();
+    own_gradings::own_steps_rise();
     let design = setup.design();
     let trace = window.window();
     let _first = trace.begins();

@@ -6,9 +6,10 @@ use Rattle.v_design.specs.Plain.{fault_of}
 use Rattle.copy_laws.specs.Windows.{RiseAtMostOwn}
 use Rattle.fault_strobes.specs.Said.{plan_by}
 use Rattle.copy_lockstep.specs.copy_window.ShardFaults.{kept_by}
+use Rattle.copy_lockstep.specs.copy_window.Tried.{MayTry}
 use Rattle.window_faults.proofs.Steps.{stays-open, stays-same}
 use Rattle.window_faults.proofs.Within.{has-come, none-end, within-there}
-use Rattle.shard_slots.proofs.Leaving.{none-tried, rests-within, through-within, whole-within}
+use Rattle.shard_slots.proofs.Leaving.{may-try, none-tried, rests-within, through-within, whole-within}
 use Rattle.shard_slots.proofs.leave.leave_one.Goals as goal
 
 -- a fault whose grading ended
@@ -95,7 +96,12 @@ run_whole-requires-clause-slot g c κs within =
     omega (arith, c.requires.slot, c.if-slot-at.false, come)
 
 pub run_whole-requires-clause-tried : goal.run_whole-requires-clause-tried
-run_whole-requires-clause-tried g c κs within = ?
+run_whole-requires-clause-tried g c κs within =
+    let own = c.args.own.now in
+    let come = c.requires.went.come (none-end own.end (sym c.is_some.ensures ∙ c.if-is_some.false)) in
+    let same : c.args.slot ≡ c.args.at.now.slot = omega (arith, c.if-slot-at.false, come) in
+    subst (λ (n : ℕ). MayTry g.N.World.design (plan_by (kept_by own) g.N.World.plan) (c.args.window.now.before + n) (fault_of c.args.beside.fault) c.args.beside.one.tried.items) same
+    (may-try c.slots_take_own.ensures g.N.World.design g.N.World.plan c.args.window.now.before c.args.window.now.through c.args.slot own c.args.at.now c.args.beside c.requires.went)
 
 pub run_whole-requires-clause-fault : goal.run_whole-requires-clause-fault
 run_whole-requires-clause-fault g c κs within =

@@ -27,9 +27,9 @@ returns-then-begins-eq0-clause-faults g c =
     c.window-trace.ensures c.in_ok-begin_each.ensures.faults
 
 pub returns-then-begins-eq0-clause-ticks : goal.returns-then-begins-eq0-clause-ticks
-returns-then-begins-eq0-clause-ticks g c =
+returns-then-begins-eq0-clause-ticks g c tally =
     subst (λ (w : WindowKept). RisesWithin (steps_of_faults tally w.before c.args.faults.now.items)
-    (steps_of_faults tally w.through c.begin_each.new.faults.items) c.args.steps.now c.begin_each.new.steps) c.window-trace.ensures c.in_ok-begin_each.ensures.ticks
+    (steps_of_faults tally w.through c.begin_each.new.faults.items) c.args.steps.now c.begin_each.new.steps) c.window-trace.ensures (c.in_ok-begin_each.ensures.ticks tally)
 
 pub go_through_window-requires-clause-some : goal.go_through_window-requires-clause-some
 go_through_window-requires-clause-some g c κs within =
