@@ -1,5 +1,5 @@
 -- What is known of a faulty machine's slots beside those of a window (slots by IEEE 1364-2001, clause 5; steps by clause 9).
-use Rattle.std.specs.Prelude.{◌≡◌, ℕ, ◌<◌, ◌≤◌, Bool, length, Option, Some, None}
+use Rattle.std.specs.Prelude.{◌≡◌, ℕ, ◌<◌, ◌≤◌, Bool, [], length, Option, Some, None}
 use Rattle.v_design.specs.Designs.{FlatDesign, StuckAt, TestPlan}
 use Rattle.v_design.specs.WellFormed.{KeepsRules}
 use Rattle.copy_laws.specs.Windows.{WindowEnd, time_at, window_slots}
@@ -22,6 +22,9 @@ pub record SlotsAreKnown : Type 0 where
   pub known : (design : FlatDesign) (plan : TestPlan) (fault : StuckAt) (kept : Bool) (beside : RunBeside) (before through from end until : ℕ) (ending : WindowEnd) → KeepsRules design →
       TellsSlots design (window_slots design plan before through) beside.slots → before ≤ from → end ≤ through → LeadsTo design plan from end ending (Some until) →
       WereTaken design (plan_by kept plan) fault beside → IsKnownBeside design (plan_by kept plan) fault (time_at design plan from) until beside
+  -- where nothing was taken, that counts as own, in each stretch
+  pub none : (design : FlatDesign) (plan : TestPlan) (fault : StuckAt) (beside : RunBeside) → KeepsRules design → beside.tried.now ≡ [] → WereTaken design plan fault beside
+  pub nothing : (beside : RunBeside) (from until : Option ℕ) → beside.tried.now ≡ [] → tried_in beside from until ≡ length beside.tried.now
   -- what was taken in a slot counts as own
   pub taken : (design : FlatDesign) (plan : TestPlan) (fault : StuckAt) (beside : RunBeside) (gone : ℕ) → KeepsRules design → MayTry design plan gone fault beside.tried.now →
       IsTriedAt design plan gone beside.time → WereTaken design plan fault beside
