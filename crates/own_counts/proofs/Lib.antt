@@ -4,4 +4,3 @@ pub mod Phases
 pub mod Joined
 pub mod Slots
 pub mod Numbers
-pub mod Twice

@@ -1,12 +1,12 @@
 -- How many runs of each process ended in a phase of both machines.
-use Rattle.std.proofs.Common.{◌≡◌, ℕ, ◌+◌, List, [], ◌++◌, length, refl, ap, ◌∙◌, arith}
+use Rattle.std.proofs.Common.{◌≡◌, ℕ, ◌+◌, List, length, refl, ap, ◌∙◌, arith}
 use Rattle.std.proofs.lemmas.List.{length-append}
 use Rattle.v_design.specs.Designs.{Machine}
 use Rattle.v_design.specs.Grades.{Phase}
 use Rattle.v_design.specs.OwnSteps.{StepSeen, process_runs, runs_of, steps_in}
 use Rattle.v_design.specs.Processes.{Activity}
 use Rattle.v_design.specs.Runs.{happened}
-use Rattle.v_design.specs.States.{State, TurnKind, Event}
+use Rattle.v_design.specs.States.{Event}
 use Rattle.phase_blocks.specs.Blocks.{IsBetweenRuns, RunsOfBlocks}
 use Rattle.own_counts.specs.Slots.{NumbersAre, NumbersGoOn, behind_events}
 

@@ -1,19 +1,17 @@
 -- Own steps of a phase and of a slot so far.
 use Rattle.std.proofs.Common.{◌≡◌, ℕ, ◌+◌, ◌<◌, ◌≤◌, Bool, true, false, List, [], ◌∷◌, ◌++◌, length, nat_eq, refl, sym, ap, subst, ◌∙◌, arith}
 use Rattle.std.specs.Prelude.{Option, None, if◌then◌else◌, find, slice_get}
-use Rattle.std.specs.List.{sum}
 use Rattle.std.proofs.lemmas.List.{append_assoc, append-nil}
 use Rattle.v_design.specs.Designs.{Machine}
 use Rattle.v_design.specs.Grades.{Phase, cut, phases}
-use Rattle.v_design.specs.OwnSteps.{ProcessRun, good_runs, phase_beside, phases_if, process_runs, slot_beside}
-use Rattle.v_design.specs.PhaseLogs.{is_step_of}
-use Rattle.v_design.specs.Runs.{FirstSlot, Move, Happens, Turns, first_moves, made, slot_moves}
+use Rattle.v_design.specs.OwnSteps.{good_runs, phases_if, process_runs, slot_beside}
+use Rattle.v_design.specs.Runs.{FirstSlot, Move, Happens, Turns, made, slot_moves}
 use Rattle.v_design.specs.States.{State, TurnKind, Event, Step, LaneStep, Evaluation, NetUpdate, after, turn_of}
 use Rattle.machine_laws.specs.SlotLoop.{Moment, ComesTo, present_phase, phases_so_far, slot_from, first_moment, after_event, after_events, after_turn}
 use Rattle.copy_laws.specs.OwnRuns.{last_goes_on}
 use Rattle.own_counts.specs.Counts.{AtMostOwn, OwnLast, OwnStepsCount, PhaseTicks, ProcessTicks, behind_event, with_answer}
 use Rattle.own_counts.specs.Joins.{OwnStepsJoin, phases_beside}
-use Rattle.own_counts.specs.Slots.{OwnSoFar, OwnStepsOfPhases, OwnStepsOfSlots, OwnTicks, behind_events}
+use Rattle.own_counts.specs.Slots.{OwnCountSoFar, OwnStepsOfPhases, OwnStepsOfSlots, OwnTicks, SlotGoesOn, behind_events}
 
 -- A phase
 
@@ -116,6 +114,17 @@ cut-first machine turn begins events state (Turns ∷ moves) =
     let others = cut machine (turn_of state) (made machine state Turns) [] (made machine state Turns) moves in
     record { more = []; later = others; are = ap (λ (l : List Event). record { turn = turn; begins = begins; events = l } ∷ others) (sym (append-nil events)) }
 
+goes-on : (machine : Machine) (at : Moment) → ComesTo machine at → SlotGoesOn machine at
+goes-on machine at comes =
+    let rest = slot_moves comes.most_left comes.steps_left machine at.state in
+    let first = cut-first machine at.turn at.phase_begins at.events at.state rest in
+    record {
+      more = first.more;
+      later = first.later;
+      are =
+          ap (λ (moves : List Move). cut machine None at.begins [] at.begins moves) comes.goes_on ∙ comes.cuts rest ∙ ap (λ (l : List Phase). at.ended ++ l) first.are;
+    }
+
 -- A slot
 
 module _ (count : OwnStepsCount) (join : OwnStepsJoin) where
@@ -130,7 +139,7 @@ module _ (count : OwnStepsCount) (join : OwnStepsJoin) where
       (count.less (phases_beside good faulty others (before ++ phase ∷ [])) (ticked + 0) ticked (omega arith)
       (join.phases good faulty others before phase ticked 0 bound (λ counts all. omega arith))))
 
-  begins : (good faulty : Machine) (others : List Phase) (begins : State) → OwnSoFar good faulty others (first_moment begins) 0
+  begins : (good faulty : Machine) (others : List Phase) (begins : State) → OwnCountSoFar good faulty others (first_moment begins) 0
   begins good faulty others state = record {
     before = 0;
     now = 0;
@@ -142,7 +151,7 @@ module _ (count : OwnStepsCount) (join : OwnStepsJoin) where
   -- behind some events the phases that ended are the same
   onward : (good faulty : Machine) (others : List Phase) (at : Moment) (events : List Event) (before now ticked : ℕ) → AtMostOwn (phases_beside good faulty others at.ended) before →
       OwnTicks good faulty (slice_get others (length at.ended)) (behind_events (present_phase at) events) now → ticked ≤ before + now →
-      OwnSoFar good faulty others (after_events faulty events at) ticked
+      OwnCountSoFar good faulty others (after_events faulty events at) ticked
   onward good faulty others at events before now ticked ended present total = record {
     before = before;
     now = now;
@@ -156,19 +165,19 @@ module _ (count : OwnStepsCount) (join : OwnStepsJoin) where
   goes : (good faulty : Machine) (others : List Phase) (at : Moment) (events : List Event) (ticked more : ℕ) →
       ((now : ℕ) → OwnTicks good faulty (slice_get others (length at.ended)) (present_phase at) now →
       OwnTicks good faulty (slice_get others (length at.ended)) (behind_events (present_phase at) events) (now + more)) →
-      OwnSoFar good faulty others at ticked → OwnSoFar good faulty others (after_events faulty events at) (ticked + more)
+      OwnCountSoFar good faulty others at ticked → OwnCountSoFar good faulty others (after_events faulty events at) (ticked + more)
   goes good faulty others at events ticked more step so_far =
       let total = so_far.total in
       onward good faulty others at events so_far.before (so_far.now + more) (ticked + more) so_far.ended (step so_far.now so_far.present) (omega (arith, total))
 
-  passes : (good faulty : Machine) (others : List Phase) (at : Moment) (events : List Event) (ticked : ℕ) → OwnSoFar good faulty others at ticked →
-      OwnSoFar good faulty others (after_events faulty events at) ticked
+  passes : (good faulty : Machine) (others : List Phase) (at : Moment) (events : List Event) (ticked : ℕ) → OwnCountSoFar good faulty others at ticked →
+      OwnCountSoFar good faulty others (after_events faulty events at) ticked
   passes good faulty others at events ticked so_far =
       onward good faulty others at events so_far.before so_far.now ticked so_far.ended
       (later count good faulty (slice_get others (length at.ended)) (present_phase at) events so_far.now so_far.present) so_far.total
 
-  turns : (good faulty : Machine) (others : List Phase) (at : Moment) (turn : TurnKind) (ticked : ℕ) → OwnSoFar good faulty others at ticked →
-      OwnSoFar good faulty others (after_turn turn at) ticked
+  turns : (good faulty : Machine) (others : List Phase) (at : Moment) (turn : TurnKind) (ticked : ℕ) → OwnCountSoFar good faulty others at ticked →
+      OwnCountSoFar good faulty others (after_turn turn at) ticked
   turns good faulty others at turn ticked so_far =
       let total = so_far.total in
       let after_it = after_turn turn at in
@@ -182,22 +191,20 @@ module _ (count : OwnStepsCount) (join : OwnStepsJoin) where
         total = omega (arith, total);
       }
 
-  fewer : (good faulty : Machine) (others : List Phase) (at : Moment) (ticked few : ℕ) → few ≤ ticked → OwnSoFar good faulty others at ticked → OwnSoFar good faulty others at few
+  fewer : (good faulty : Machine) (others : List Phase) (at : Moment) (ticked few : ℕ) → few ≤ ticked → OwnCountSoFar good faulty others at ticked → OwnCountSoFar good faulty others at few
   fewer good faulty others at ticked few low so_far =
       let total = so_far.total in
       record { before = so_far.before; now = so_far.now; ended = so_far.ended; present = so_far.present; total = omega (arith, low, total) }
 
   within : (good faulty : Machine) (good_slots : List FirstSlot) (found : Option FirstSlot) (at : Moment) (ticked : ℕ) → ComesTo faulty at →
-      find (λ (other : FirstSlot). nat_eq other.begins.time at.begins.time) good_slots ≡ found → OwnSoFar good faulty (phases_if good found) at ticked →
+      find (λ (other : FirstSlot). nat_eq other.begins.time at.begins.time) good_slots ≡ found → OwnCountSoFar good faulty (phases_if good found) at ticked →
       AtMostOwn (slot_beside good faulty good_slots (slot_from faulty at.begins)) ticked
   within good faulty good_slots found at ticked comes is so_far =
-      let rest = slot_moves comes.most_left comes.steps_left faulty at.state in
-      let first = cut-first faulty at.turn at.phase_begins at.events at.state rest in
+      let first = goes-on faulty at comes in
       let phase = behind_events (present_phase at) first.more in
       let others = phases_if good found in
       let all : phases faulty (slot_from faulty at.begins) ≡ (at.ended ++ phase ∷ []) ++ first.later =
-      ap (λ (moves : List Move). cut faulty None at.begins [] at.begins moves) comes.goes_on ∙ comes.cuts rest ∙ ap (λ (l : List Phase). at.ended ++ l) first.are
-      ∙ sym (append_assoc at.ended (phase ∷ []) first.later) in
+      first.are ∙ sym (append_assoc at.ended (phase ∷ []) first.later) in
       let here = later count good faulty (slice_get others (length at.ended)) (present_phase at) first.more so_far.now so_far.present in
       let through =
       join.phases good faulty others at.ended phase so_far.before so_far.now so_far.ended
@@ -212,6 +219,7 @@ module _ (count : OwnStepsCount) (join : OwnStepsJoin) where
   own_steps_of_slots = record {
     present = present-behind;
     ended = ended-behind;
+    goes_on = goes-on;
     begins = begins;
     goes = goes;
     passes = passes;

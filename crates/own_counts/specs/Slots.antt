@@ -1,7 +1,7 @@
 -- Own steps of a slot so far, phase by phase, and how many runs of its present phase ended (slots and phases by IEEE 1364-2001, clause 5; steps by clause 9).
-use Rattle.std.specs.Prelude.{◌≡◌, ℕ, ◌+◌, ◌<◌, ◌≤◌, false, List, [], ◌∷◌, ◌++◌, length, Option, nat_eq, find, slice_get}
+use Rattle.std.specs.Prelude.{◌≡◌, ℕ, ◌+◌, ◌<◌, ◌≤◌, false, List, [], ◌++◌, length, Option, nat_eq, find, slice_get}
 use Rattle.v_design.specs.Designs.{Machine}
-use Rattle.v_design.specs.Grades.{Phase}
+use Rattle.v_design.specs.Grades.{Phase, phases}
 use Rattle.v_design.specs.OwnSteps.{good_runs, phase_beside, phases_if, process_runs, slot_beside, steps_in}
 use Rattle.v_design.specs.Runs.{FirstSlot, happened}
 use Rattle.v_design.specs.States.{State, TurnKind, Event, Step}
@@ -23,12 +23,18 @@ OwnTicks good faulty other phase ticked = PhaseTicks good faulty other phase (λ
 -- A slot
 
 -- of a slot so far a counter ticked no more than counts as own, beside the good machine's phases: in the phases that ended, and in the present one
-pub record OwnSoFar (good faulty : Machine) (others : List Phase) (at : Moment) (ticked : ℕ) : Type 0 where
+pub record OwnCountSoFar (good faulty : Machine) (others : List Phase) (at : Moment) (ticked : ℕ) : Type 0 where
   pub before : ℕ
   pub now : ℕ
   pub ended : AtMostOwn (phases_beside good faulty others at.ended) before
   pub present : OwnTicks good faulty (slice_get others (length at.ended)) (present_phase at) now
   pub total : ticked ≤ before + now
+
+-- a slot whose first order comes to a moment goes on from there: its present phase with some more events, and some phases
+pub record SlotGoesOn (machine : Machine) (at : Moment) : Type 0 where
+  pub more : List Event
+  pub later : List Phase
+  pub are : phases machine (slot_from machine at.begins) ≡ at.ended ++ behind_events (present_phase at) more ∷ later
 
 -- Numbers of runs
 
@@ -58,24 +64,26 @@ pub record OwnStepsOfSlots : Type 0 where
   -- the present phase behind some events, and the phases that ended
   pub present : (machine : Machine) (events : List Event) (at : Moment) → present_phase (after_events machine events at) ≡ behind_events (present_phase at) events
   pub ended : (machine : Machine) (events : List Event) (at : Moment) → (after_events machine events at).ended ≡ at.ended
+  -- wherever the first order is in a slot, this goes on from there
+  pub goes_on : (machine : Machine) (at : Moment) → ComesTo machine at → SlotGoesOn machine at
   -- a slot begins
-  pub begins : (good faulty : Machine) (others : List Phase) (begins : State) → OwnSoFar good faulty others (first_moment begins) 0
+  pub begins : (good faulty : Machine) (others : List Phase) (begins : State) → OwnCountSoFar good faulty others (first_moment begins) 0
   -- events with which so many steps more tick, each of a run whose steps all count as own
   pub goes : (good faulty : Machine) (others : List Phase) (at : Moment) (events : List Event) (ticked more : ℕ) →
       ((now : ℕ) → OwnTicks good faulty (slice_get others (length at.ended)) (present_phase at) now →
       OwnTicks good faulty (slice_get others (length at.ended)) (behind_events (present_phase at) events) (now + more)) →
-      OwnSoFar good faulty others at ticked → OwnSoFar good faulty others (after_events faulty events at) (ticked + more)
+      OwnCountSoFar good faulty others at ticked → OwnCountSoFar good faulty others (after_events faulty events at) (ticked + more)
   -- events with which nothing ticks
-  pub passes : (good faulty : Machine) (others : List Phase) (at : Moment) (events : List Event) (ticked : ℕ) → OwnSoFar good faulty others at ticked →
-      OwnSoFar good faulty others (after_events faulty events at) ticked
+  pub passes : (good faulty : Machine) (others : List Phase) (at : Moment) (events : List Event) (ticked : ℕ) → OwnCountSoFar good faulty others at ticked →
+      OwnCountSoFar good faulty others (after_events faulty events at) ticked
   -- a turn within the slot
-  pub turns : (good faulty : Machine) (others : List Phase) (at : Moment) (turn : TurnKind) (ticked : ℕ) → OwnSoFar good faulty others at ticked →
-      OwnSoFar good faulty others (after_turn turn at) ticked
+  pub turns : (good faulty : Machine) (others : List Phase) (at : Moment) (turn : TurnKind) (ticked : ℕ) → OwnCountSoFar good faulty others at ticked →
+      OwnCountSoFar good faulty others (after_turn turn at) ticked
   -- a counter may tick less
-  pub fewer : (good faulty : Machine) (others : List Phase) (at : Moment) (ticked few : ℕ) → few ≤ ticked → OwnSoFar good faulty others at ticked → OwnSoFar good faulty others at few
+  pub fewer : (good faulty : Machine) (others : List Phase) (at : Moment) (ticked few : ℕ) → few ≤ ticked → OwnCountSoFar good faulty others at ticked → OwnCountSoFar good faulty others at few
   -- wherever the first order is in a slot, the counter is at most the own steps of the whole slot
   pub within : (good faulty : Machine) (good_slots : List FirstSlot) (found : Option FirstSlot) (at : Moment) (ticked : ℕ) → ComesTo faulty at →
-      find (λ (other : FirstSlot). nat_eq other.begins.time at.begins.time) good_slots ≡ found → OwnSoFar good faulty (phases_if good found) at ticked →
+      find (λ (other : FirstSlot). nat_eq other.begins.time at.begins.time) good_slots ≡ found → OwnCountSoFar good faulty (phases_if good found) at ticked →
       AtMostOwn (slot_beside good faulty good_slots (slot_from faulty at.begins)) ticked
 
 pub record NumbersGoOn : Type 0 where

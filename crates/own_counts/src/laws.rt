@@ -3,7 +3,6 @@
 ghost use Rattle.own_counts.specs.Counts.{OwnStepsCount};
 ghost use Rattle.own_counts.specs.Joins.{OwnStepsJoin};
 ghost use Rattle.own_counts.specs.Slots.{OwnStepsOfPhases, OwnStepsOfSlots, NumbersGoOn};
-ghost use Rattle.own_counts.specs.Twice.{OwnStepsTwice};
 
 /// What each event of a phase makes of a counter of own steps, and that it stays below them.
 ///
@@ -40,10 +39,3 @@ pub fn run_numbers_go_on()
 {
     phase_blocks::blocks_are_told();
 }
-
-/// Counters that rise by at most twice the own steps, one behind the other.
-///
-/// It does nothing when it runs.
-pub fn own_steps_twice()
-    ensures { OwnStepsTwice }
-{}

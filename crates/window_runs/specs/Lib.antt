@@ -4,3 +4,4 @@ pub mod Standing
 pub mod RunLaws
 pub mod Through
 pub mod OfPhase
+pub mod OfSlot
