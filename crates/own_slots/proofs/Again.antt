@@ -1,26 +1,24 @@
 -- A slot that is run again.
-use Rattle.std.proofs.Common.{◌≡◌, ℕ, zero, suc, ◌+◌, ◌-◌, ◌<◌, ◌≤◌, Bool, List, [], ◌∷◌, ◌++◌, length, drop, nat_eq, refl, sym, ap, subst, ◌∙◌, arith}
+use Rattle.std.proofs.Common.{◌≡◌, ℕ, zero, suc, ◌+◌, ◌-◌, ◌<◌, Bool, List, [], ◌∷◌, ◌++◌, length, drop, nat_eq, refl, sym, ap, subst, ◌∙◌, arith}
 use Rattle.std.specs.Prelude.{Option, Some, None, find, slice_get}
 use Rattle.std.proofs.lemmas.List.{append_assoc, append_cancel_left, append-nil, length-append, length-drop}
 use Rattle.std.proofs.lemmas.Option.{none-some, slice_get_within}
-use Rattle.vf_base.specs.Base.{process_number}
 use Rattle.vf_base.specs.Lists.{AllHold}
 use Rattle.v_design.specs.Designs.{Machine}
 use Rattle.v_design.specs.Grades.{Phase, phases}
-use Rattle.v_design.specs.OwnSteps.{ProcessRun, good_runs, phases_if, process_runs, slot_beside}
+use Rattle.v_design.specs.OwnSteps.{good_runs, phases_if, process_runs, slot_beside}
 use Rattle.v_design.specs.Laws.{BeginsPhase}
 use Rattle.v_design.specs.Runs.{FirstSlot}
 use Rattle.v_design.specs.States.{State, TurnKind, Event, Step, found_or}
 use Rattle.machine_laws.specs.SlotLoop.{Moment, ComesTo, EndsAt, SlotsBegin, present_phase, phases_so_far, slot_from, first_moment, after_event, after_events, after_turn}
 use Rattle.copy_laws.specs.OwnRuns.{RunsGrow, StepsGrow}
 use Rattle.own_counts.specs.Counts.{AtMostOwn, OwnLast, OwnStepsCount, behind_event}
-use Rattle.own_counts.specs.Slots.{OwnCountSoFar, OwnStepsOfPhases, OwnStepsOfSlots, OwnTicks, SlotGoesOn, behind_events}
-use Rattle.good_runs.specs.Kept.{KeptAt, place_of}
+use Rattle.own_counts.specs.Slots.{OwnCountSoFar, OwnStepsOfPhases, OwnStepsOfSlots, behind_events}
+use Rattle.good_runs.specs.Kept.{KeptAt}
 use Rattle.good_runs.specs.declared.tried.TriedStep.{TriedStep}
 use Rattle.own_slots.specs.Again.{AreAhead, ComesAgain, IsAgain, IsNextPlace, IsNoStep, SecondRuns}
 use Rattle.own_slots.specs.Slots.{KeepsBeside, PhasesKeep, WereTried}
 use Rattle.own_slots.proofs.Kept.{kept-empty, kept-here, kept-other, kept-past}
-use Rattle.own_slots.proofs.Places.{place_behind}
 use Rattle.own_slots.proofs.Slots.{phases-from, whole}
 
 -- Lists

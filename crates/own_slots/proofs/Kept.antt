@@ -1,5 +1,5 @@
 -- Steps that are kept of some events.
-use Rattle.std.proofs.Common.{◌≡◌, ℕ, ◌+◌, ◌≤◌, Bool, true, false, List, [], ◌∷◌, ◌++◌, length, refl, sym, ap, subst, ◌∙◌, inl, inr, arith}
+use Rattle.std.proofs.Common.{◌≡◌, ℕ, List, [], ◌∷◌, ◌++◌, refl, sym, ap, subst, ◌∙◌, inl, inr}
 use Rattle.std.proofs.lemmas.Bool.{eq-eqb, true≢false}
 use Rattle.std.proofs.lemmas.List.{append_assoc, append-nil}
 use Rattle.vf_base.specs.Base.{process_number}
@@ -50,10 +50,12 @@ module _ (goods : ℕ → List ProcessRun) (numbers : ℕ → ℕ) (machine : Ma
       (kept-join (before ++ event ∷ []) events behind (one ∷ tried) more kept
       (subst (λ (l : List Event). Keeps goods numbers machine phase begins l behind more) (sym (append_assoc before (event ∷ []) events)) later))
   kept-join before (event ∷ events) behind (one ∷ tried) more (inr first) later =
-      inr
-      (first.0, first.1,
-      kept-join (before ++ event ∷ []) events behind tried more first.2
-      (subst (λ (l : List Event). Keeps goods numbers machine phase begins l behind more) (sym (append_assoc before (event ∷ []) events)) later))
+      inr (
+        first.0,
+        first.1,
+        kept-join (before ++ event ∷ []) events behind tried more first.2
+            (subst (λ (l : List Event). Keeps goods numbers machine phase begins l behind more) (sym (append_assoc before (event ∷ []) events)) later),
+      )
 
   -- events that are no steps
   pub kept-past : (before events behind : List Event) (tried : List TriedStep) → AllHold IsNoStep events → Keeps goods numbers machine phase begins before (events ++ behind) tried →

@@ -1,6 +1,6 @@
 -- The steps that were taken in a slot so far.
 use Rattle.std.proofs.Common.{◌≡◌, ℕ, zero, suc, ◌+◌, ◌≤◌, Bool, true, false, List, [], ◌∷◌, ◌++◌, length, drop, map, nat_eq, refl, sym, ap, subst, ◌∙◌, inl, inr, arith}
-use Rattle.std.specs.Prelude.{Option, Some, None, find, slice_get}
+use Rattle.std.specs.Prelude.{Option, find, slice_get}
 use Rattle.std.proofs.lemmas.Bool.{true≢false}
 use Rattle.std.proofs.lemmas.List.{append_assoc, append-nil, length-append}
 use Rattle.vf_base.specs.Base.{process_number}
@@ -9,13 +9,13 @@ use Rattle.v_design.specs.Designs.{Machine}
 use Rattle.v_design.specs.Grades.{Phase, phases}
 use Rattle.v_design.specs.OwnSteps.{ProcessRun, beside, good_runs, phase_beside, phases_if, slot_beside}
 use Rattle.v_design.specs.Runs.{FirstSlot}
-use Rattle.v_design.specs.States.{State, TurnKind, Event, Step}
-use Rattle.machine_laws.specs.SlotLoop.{Moment, ComesTo, present_phase, phases_so_far, slot_from, first_moment, after_events, after_turn}
+use Rattle.v_design.specs.States.{State, TurnKind, Event}
+use Rattle.machine_laws.specs.SlotLoop.{Moment, ComesTo, present_phase, slot_from, first_moment, after_events, after_turn}
 use Rattle.own_counts.specs.Counts.{AtMostOwn, OwnStepsCount}
 use Rattle.own_counts.specs.Joins.{phases_beside}
 use Rattle.own_counts.specs.Slots.{OwnStepsOfPhases, OwnStepsOfSlots, OwnTicks, behind_events}
 use Rattle.good_runs.specs.declared.tried.TriedStep.{TriedStep}
-use Rattle.own_slots.specs.Slots.{AreJoined, KeepsBeside, OwnSoFar, PhaseKeeps, PhasesKeep, TriedStepsGoOn, WereTried}
+use Rattle.own_slots.specs.Slots.{KeepsBeside, OwnSoFar, PhaseKeeps, PhasesKeep, TriedStepsGoOn, WereTried}
 use Rattle.own_slots.proofs.Kept.{kept-join, kept-none, kept-phase}
 
 -- Lists
