@@ -161,15 +161,16 @@ found-low [] p row e = absurd (cc)
 found-low (first ∷ rows) zero row e = (omega arith, (let same : first ≡ row = cc in sym same))
 found-low (first ∷ rows) (suc p) row e = let rest = found-low rows p row e in (omega (arith, rest.0), rest.1)
 
+-- the number of objects of a table's design
+abbrev objects_of : ProcessTable → ℕ
+objects_of t = length (design_of t.design.now).objects
+
 -- what a process of a table reads next
 pub reads-there : (t : ProcessTable) → IsKept t → (machine : Machine) (state : State) → IsTableOf machine state (table_of t) → (p : ℕ) →
     IfSome (read_of (step_of machine state p).action) (λ (object : ℕ). object < length (design_of t.design.now).objects)
 reads-there t kept machine state of p =
-    subst (StepReads limit) (sym step) (go (slice_get t.rows.items p) refl)
+    subst (StepReads (objects_of t)) (sym step) (go (slice_get t.rows.items p) refl)
   where
-    abbrev limit : ℕ
-    limit = length (design_of t.design.now).objects
-
     step : step_of machine state p ≡ step_from (text_at (design_of t.design.now).processes p) t.time (found_or no_row (option_map row_state (slice_get t.rows.items p))).activity
     step =
         step-of machine state (table_of t) p of
@@ -178,11 +179,11 @@ reads-there t kept machine state of p =
         ∙ ap (λ (row : RowState). step_from (text_at (design_of t.design.now).processes p) t.time row.activity) (state-found t.rows.items p)
 
     go : (found : Option Row) → slice_get t.rows.items p ≡ found →
-        StepReads limit (step_from (text_at (design_of t.design.now).processes p) t.time (found_or no_row (option_map row_state found)).activity)
+        StepReads (objects_of t) (step_from (text_at (design_of t.design.now).processes p) t.time (found_or no_row (option_map row_state found)).activity)
     go None e = tt
     go (Some row) e =
         let low = found-low t.rows.items p row e in
         let at = code-at t kept p row low.0 low.1 in
-        state-below limit (text_at (design_of t.design.now).processes p) t.time row.code row.state (AllHold-at IsGoodRow t.rows.items p row kept.good low.0 low.1).state
-        (subst (λ (process : Option FlatProcess). AreBelow limit (named_by (found_or (text_at [] 0) process).body)) at.process_is
+        state-below (objects_of t) (text_at (design_of t.design.now).processes p) t.time row.code row.state (AllHold-at IsGoodRow t.rows.items p row kept.good low.0 low.1).state
+        (subst (λ (process : Option FlatProcess). AreBelow (objects_of t) (named_by (found_or (text_at [] 0) process).body)) at.process_is
         (bodies-below (design_of t.design.now) (rules_hold (design_of t.design.now) t.design.now.rules) p))
