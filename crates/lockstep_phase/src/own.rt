@@ -44,7 +44,7 @@ fn take_own<N: World, L: Ledger>(
     requires order { room.old.behind.moment ≤ end }
     requires end { end ≤ length (window_events N.design N.plan view.now.window.now.before view.now.window.now.through) }
     requires goes { each.old.goes ≡ true → MayRunOwn N.design N.plan (fault_of each.old.fault) view.now.window.now.before view.now.window.now.through room.old.runner room.old.before
-        room.old.behind room.old.counts each.old.one.notes each.old.one.own each.old.one.spare each.old.one.ticked }
+        room.old.behind room.old.counts each.old.one.notes each.old.one.own each.old.one.spare each.old.one.tried.items each.old.one.apart.items }
     ensures own { OnOk result (TakesOwn N.design N.plan view.now.window.now.before view.now.window.now.through view.now.blocks.now.moments end room.old.runner room.old.before room.old.behind
         room.old.counts each.old each.new) }
     ensures room { OnOk result (RoomWaits N.design N.plan time room.old.runner room.old.before room.old.behind room.old.counts room.new.runner room.new.before room.new.behind

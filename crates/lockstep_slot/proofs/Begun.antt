@@ -53,7 +53,7 @@ pub enters : SlotsAreCounted → (design : FlatDesign) (plan : TestPlan) (fault 
     MayBeginSlot design plan fault (from + number) copy → first ≡ length (window_events design plan from (from + number)) →
     behind ≡ length (window_events design plan from (from + (number + 1))) → KeepsSame copy one.own.copy → one.own.lanes ≡ [] → HasNoNotes first one.notes →
     one.spare + (behind - first) ≡ most_steps → one.ticked ≡ 0 → BeginsSlot design plan fault from until number one
-enters counted design plan fault from until number first behind copy one within of begins ends same empty none spare ticked =
+enters counted design plan fault from until number first behind copy one within of begins ends same empty none spare tried apart =
     let next : from + (number + 1) ≡ suc (from + number) = omega arith in
     let more = counted.events design plan from (from + number) of.slot (omega arith) of.stands in
     let all : length (window_events design plan from (from + (number + 1))) ≡ length (window_events design plan from (suc (from + number))) =

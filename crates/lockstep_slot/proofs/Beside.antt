@@ -37,7 +37,7 @@ pub record GoesBeside (design : FlatDesign) (plan : TestPlan) (from until number
   pub stays : StaysBeside old new
   pub on : new.goes ≡ true → (of : BeginsSlot design plan (fault_of old.fault) from until number old.one) →
       SlotGoesOn design plan (fault_of old.fault) of.may.slot (own_begins design plan (fault_of old.fault) of.may.time of.may.slot) from until number place runner before behind new.one.notes
-      new.one.own new.one.spare new.one.ticked
+      new.one.own new.one.spare new.one.tried.items new.one.apart.items
   pub most : old.goes ≡ true → (of : BeginsSlot design plan (fault_of old.fault) from until number old.one) →
       new.one.ticked ≤ slot_steps_of design old.fault (own_begins design plan (fault_of old.fault) of.may.time of.may.slot)
 
@@ -46,7 +46,7 @@ pub record ThroughBeside (design : FlatDesign) (plan : TestPlan) (from until num
   pub stays : StaysBeside old new
   pub through : new.goes ≡ true → (of : BeginsSlot design plan (fault_of old.fault) from until number old.one) →
       PhaseIsThrough design plan (fault_of old.fault) of.may.slot (own_begins design plan (fault_of old.fault) of.may.time of.may.slot) from until number place runner before behind new.one.notes
-      new.one.own new.one.spare new.one.ticked
+      new.one.own new.one.spare new.one.tried.items new.one.apart.items
   pub most : old.goes ≡ true → (of : BeginsSlot design plan (fault_of old.fault) from until number old.one) →
       new.one.ticked ≤ slot_steps_of design old.fault (own_begins design plan (fault_of old.fault) of.may.time of.may.slot)
 
@@ -114,7 +114,7 @@ module _ (design : FlatDesign) (plan : TestPlan) (from until number : ℕ) where
           (λ n. SlotGoesOn design plan (fault_of old.fault) of.may.slot begins from until number there new_runner new_before new_behind new.one.notes new.one.own mid.one.spare n)
           (sym turns.ticked)
           (turns-over steps follow lanes design plan (fault_of old.fault) of.may.slot begins from until number (further (length place.left) place) runner before behind mid.one.notes
-          new.one.notes mid.one.own new.one.own mid.one.spare mid.one.ticked next later was.on (further-all place) follows was.clean
+          new.one.notes mid.one.own new.one.own mid.one.spare mid.one.tried.items mid.one.apart.items next later was.on (further-all place) follows was.clean
           (subst (λ n. HasNoNotes n new.one.notes) room.before_turns.moment (turns.cleared still)) new_runner new_before new_behind room.whole room.machine_is room.state_is room.before_turns
           room.behind_turns (subst (λ n. TurnsAll n new_before mid.one.own new.one.own) (time of.may.slot of.may.stands) (turns.turns still))));
       most = λ went of. subst (λ n. n ≤ slot_steps_of design old.fault (own_begins design plan (fault_of old.fault) of.may.time of.may.slot)) (sym turns.ticked) (through.most went of);
@@ -126,7 +126,7 @@ module _ (design : FlatDesign) (plan : TestPlan) (from until number : ℕ) where
         GoesBeside design plan from until number place runner before behind old new → MayGoOnIf design plan from until runner before behind new
     may-go-on runner before behind old new begins goes = λ still.
         let of = begins (goes.stays.before still) in
-        subst (λ (f : Fault). SlotMayGoOn design plan (fault_of f) from until runner before behind new.one.notes new.one.own new.one.spare new.one.ticked) (sym goes.stays.fault)
+        subst (λ (f : Fault). SlotMayGoOn design plan (fault_of f) from until runner before behind new.one.notes new.one.own new.one.spare new.one.tried.items new.one.apart.items) (sym goes.stays.fault)
         (record {
           number = number;
           slot = of.may.slot;
@@ -147,7 +147,7 @@ module _ (design : FlatDesign) (plan : TestPlan) (from until number : ℕ) where
             let begins = own_begins design plan (fault_of old.fault) of.may.time of.may.slot in
             subst (λ (f : Fault). new.one.ticked ≤ slot_steps_of design f begins) goes.stays.fault
             (comes.most is number of.may.slot begins place
-            (subst (λ (f : Fault). SlotGoesOn design plan (fault_of f) of.may.slot begins from until number place runner before behind mid.one.notes mid.one.own mid.one.spare mid.one.ticked)
+            (subst (λ (f : Fault). SlotGoesOn design plan (fault_of f) of.may.slot begins from until number place runner before behind mid.one.notes mid.one.own mid.one.spare mid.one.tried.items mid.one.apart.items)
             (sym goes.stays.fault) (goes.on is of)))
         go false is =
             subst (λ n. n ≤ slot_steps_of design old.fault (own_begins design plan (fault_of old.fault) of.may.time of.may.slot)) (sym (comes.stays.left is)) (goes.most went of)
@@ -161,10 +161,10 @@ module _ (design : FlatDesign) (plan : TestPlan) (from until number : ℕ) where
           let begins = own_begins design plan (fault_of old.fault) of.may.time of.may.slot in
           let on = goes.on (comes.stays.before still) of in
           subst
-          (λ (f : Fault). PhaseIsThrough design plan (fault_of f) of.may.slot begins from until number place new_runner next later new.one.notes new.one.own new.one.spare new.one.ticked)
+          (λ (f : Fault). PhaseIsThrough design plan (fault_of f) of.may.slot begins from until number place new_runner next later new.one.notes new.one.own new.one.spare new.one.tried.items new.one.apart.items)
           goes.stays.fault
           (comes.through still number of.may.slot begins place
-          (subst (λ (f : Fault). SlotGoesOn design plan (fault_of f) of.may.slot begins from until number place runner before behind mid.one.notes mid.one.own mid.one.spare mid.one.ticked)
+          (subst (λ (f : Fault). SlotGoesOn design plan (fault_of f) of.may.slot begins from until number place runner before behind mid.one.notes mid.one.own mid.one.spare mid.one.tried.items mid.one.apart.items)
           (sym goes.stays.fault) on));
       most = λ went of. through-most runner before behind new_runner next later old mid new goes comes went of;
     }
@@ -209,7 +209,7 @@ module _ (design : FlatDesign) (plan : TestPlan) (from until number : ℕ) where
             let of = begins (through.stays.before still) in
             let on = (through.through still of).on in
             are-processes design plan (fault_of old.fault) of.may.slot (own_begins design plan (fault_of old.fault) of.may.time of.may.slot) from until before.moment
-            (further (length place.left) place) before new.one.notes new.one.own new.one.spare new.one.ticked on.room.at.before_at on.goes
+            (further (length place.left) place) before new.one.notes new.one.own new.one.spare new.one.tried.items new.one.apart.items on.room.at.before_at on.goes
 
         -- the steps of its own blocks are at most those of its slot
         most-there : BeginsSlotIf design plan from until number old → old.goes ≡ true → (of : MayBeginSlot design plan (fault_of old.fault) (from + number) old.one.own.copy) →
@@ -244,7 +244,7 @@ module _ (design : FlatDesign) (plan : TestPlan) (from until number : ℕ) where
               let was = through.through still of in
               subst (λ (s : FirstSlot). IsCopyInLockstep design plan (fault_of old.fault) (from + number) s.begins.time (lockstep_differences new.one.own.copy))
               (some-slot of.may.slot slot (sym of.may.stands ∙ is))
-              (slot-through steps design plan (fault_of old.fault) from until number old.one.own.copy place.phase place.later new.one.notes new.one.own new.one.spare new.one.ticked of.may ends
+              (slot-through steps design plan (fault_of old.fault) from until number old.one.own.copy place.phase place.later new.one.notes new.one.own new.one.spare new.one.tried.items new.one.apart.items of.may ends
               runner before behind
               (record { place = further (length place.left) place; on = was.on; through = further-all place; last = last; clean = was.clean }) up.values up.updates);
           most = most-there begins;

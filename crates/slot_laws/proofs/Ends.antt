@@ -107,11 +107,11 @@ slot-early moments design plan number slot end here =
 -- The beginning
 
 module _ (steps : StepsGoOn) (design : FlatDesign) (plan : TestPlan) (fault : StuckAt) (from until number : ℕ) (copy : CopyKept) (phase : Phase) (later : List Phase) (notes : NotesKept)
-    (own : LockstepCopy) (spare ticked : ℕ) (of : MayBeginSlot design plan fault (from + number) copy) where
+    (own : LockstepCopy) (spare : ℕ) (tried : List TriedStep) (apart : List RunApart) (of : MayBeginSlot design plan fault (from + number) copy) where
   pub slot-begins : phases (good_machine design) of.slot ≡ phase ∷ later → from + number < until → of.slot.begins.time ≤ 2 ^ 63 → own.copy.values ≡ copy.values → own.copy.updates ≡ copy.updates → own.lanes ≡ [] → (runner : Runner) (before behind : MomentKept) →
       IsRoomIn design plan from until number (first_place phase later) runner before behind → before.moment ≡ length (window_events design plan from (from + number)) →
       HasNoNotes before.moment notes → steps_left (first_place phase later) + spare ≤ most_steps → ticked ≡ 0 →
-      SlotGoesOn design plan fault of.slot (own_begins design plan fault of.time of.slot) from until number (first_place phase later) runner before behind notes own spare ticked
+      SlotGoesOn design plan fault of.slot (own_begins design plan fault of.time of.slot) from until number (first_place phase later) runner before behind notes own spare tried apart
   slot-begins are within early values updates empty runner before behind room moment none few begun =
       let at : before.moment ≡ length (window_events design plan from (suc of.before)) = moment ∙ ap (λ n. length (window_events design plan from n)) of.number_is in
       let here = of.number_is in
@@ -143,7 +143,7 @@ module _ (steps : StepsGoOn) (design : FlatDesign) (plan : TestPlan) (fault : St
   -- The end
 
   pub slot-ends : KeptEnds → (place : Place) (runner : Runner) (before behind : MomentKept)
-      (on : SlotGoesOn design plan fault of.slot (own_begins design plan fault of.time of.slot) from until number place runner before behind notes own spare ticked) → place.left ≡ [] → place.later ≡ [] →
+      (on : SlotGoesOn design plan fault of.slot (own_begins design plan fault of.time of.slot) from until number place runner before behind notes own spare tried apart) → place.left ≡ [] → place.later ≡ [] →
       phase_race (faulty_machine design fault) on.goes.at.phase_begins on.goes.at.events ≡ None → Ascend own.copy.values → Ascend own.copy.updates →
       IsCopyInLockstep design plan fault (from + number) of.slot.begins.time (lockstep_differences own.copy)
   slot-ends ends place runner before behind on through last clean values updates =
@@ -153,7 +153,7 @@ module _ (steps : StepsGoOn) (design : FlatDesign) (plan : TestPlan) (fault : St
 
   -- where it is through
   pub slot-through : KeptEnds → (runner : Runner) (before behind : MomentKept) →
-      SlotIsThrough design plan fault of.slot (own_begins design plan fault of.time of.slot) from until number runner before behind notes own spare ticked → Ascend own.copy.values →
+      SlotIsThrough design plan fault of.slot (own_begins design plan fault of.time of.slot) from until number runner before behind notes own spare tried apart → Ascend own.copy.values →
       Ascend own.copy.updates → IsCopyInLockstep design plan fault (from + number) of.slot.begins.time (lockstep_differences own.copy)
   slot-through ends runner before behind through values updates =
       slot-ends ends through.place runner before behind through.on through.through through.last through.clean values updates

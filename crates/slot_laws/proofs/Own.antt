@@ -48,9 +48,9 @@ moments-same design plan place one other first second from slot =
     second.moment_is ∙ (λ i. length (window_events design plan (from i) (from i + slot i)) + events_before place) ∙ sym first.moment_is
 
 module _ (design : FlatDesign) (plan : TestPlan) (fault : StuckAt) (slot : FirstSlot) (begins : State) (from until number : ℕ) (place : Place) (runner : Runner) (before behind later : MomentKept)
-    (notes : NotesKept) (own : LockstepCopy) (spare ticked : ℕ) (on : SlotGoesOn design plan fault slot begins from until number place runner before behind notes own spare ticked)
+    (notes : NotesKept) (own : LockstepCopy) (spare : ℕ) (tried : List TriedStep) (apart : List RunApart) (on : SlotGoesOn design plan fault slot begins from until number place runner before behind notes own spare tried apart)
     (ahead : PassesBlock design plan place behind later) where
-  unfoldable pub may-run-own : (counts : Counts) → AreCounts design counts → MayRunOwn design plan fault from until runner before later counts notes own spare ticked
+  unfoldable pub may-run-own : (counts : Counts) → AreCounts design counts → MayRunOwn design plan fault from until runner before later counts notes own spare tried apart
   may-run-own counts counted = record {
     slot = slot;
     begins = begins;
@@ -64,11 +64,11 @@ module _ (design : FlatDesign) (plan : TestPlan) (fault : StuckAt) (slot : First
   }
 
   -- behind both blocks the fault is that much further
-  pub goes-further : (new : Runner) (next : MomentKept) (notes_later : NotesKept) (own_later : LockstepCopy) (less next_ticked : ℕ)
+  pub goes-further : (new : Runner) (next : MomentKept) (notes_later : NotesKept) (own_later : LockstepCopy) (less : ℕ) (next_tried : List TriedStep) (next_apart : List RunApart)
       (over : GoesOverBlock design plan from until number place before.moment new next later) → over.block ≡ ahead.block → over.rest ≡ ahead.rest →
-      FaultGoes design plan fault slot begins from until later.moment (behind_events ahead.block ahead.rest place) notes_later own_later less next_ticked →
-      GoesFurther design plan fault slot begins from until number place before.moment new next later notes_later own_later less next_ticked
-  goes-further new next notes_later own_later less next_ticked over block_is rest_is goes =
+      FaultGoes design plan fault slot begins from until later.moment (behind_events ahead.block ahead.rest place) notes_later own_later less next_tried next_apart →
+      GoesFurther design plan fault slot begins from until number place before.moment new next later notes_later own_later less next_tried next_apart
+  goes-further new next notes_later own_later less next_tried next_apart over block_is rest_is goes =
       let there : further (length over.block) place ≡ behind_events over.block over.rest place = further-block place over.block over.rest over.parts in
       let all : length place.left ≡ length (over.block ++ over.rest) = ap length over.parts in
       let long = length-append over.block over.rest in
@@ -79,14 +79,14 @@ module _ (design : FlatDesign) (plan : TestPlan) (fault : StuckAt) (slot : First
         some = over.whole.some;
         within = omega (arith, all, long);
         moment_is = over.moment_is;
-        on = subst (λ (p : Place). SlotGoesOn design plan fault slot begins from until number p new next later notes_later own_later less next_ticked) (sym there)
+        on = subst (λ (p : Place). SlotGoesOn design plan fault slot begins from until number p new next later notes_later own_later less next_tried next_apart) (sym there)
             (record {
               early = on.early;
               room = over.room;
               waits = on.waits;
               goes =
-                  subst (λ m. FaultGoes design plan fault slot begins from until m (behind_events over.block over.rest place) notes_later own_later less next_ticked) (sym moment)
-                  (subst (λ (p : Place). FaultGoes design plan fault slot begins from until later.moment p notes_later own_later less next_ticked)
+                  subst (λ m. FaultGoes design plan fault slot begins from until m (behind_events over.block over.rest place) notes_later own_later less next_tried next_apart) (sym moment)
+                  (subst (λ (p : Place). FaultGoes design plan fault slot begins from until later.moment p notes_later own_later less next_tried next_apart)
                   (λ i. behind_events (sym block_is i) (sym rest_is i) place) goes);
             });
       }

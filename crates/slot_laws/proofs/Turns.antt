@@ -159,8 +159,8 @@ module _ (follow : PhasesFollow) (design : FlatDesign) (plan : TestPlan) (from u
 -- Both machines
 
 module _ (steps : StepsGoOn) (follow : PhasesFollow) (lanes : LanesTellTurns) (design : FlatDesign) (plan : TestPlan) (fault : StuckAt) (slot : FirstSlot) (begins : State) (from until number : ℕ)
-    (place : Place) (runner : Runner) (before behind : MomentKept) (notes cleared : NotesKept) (own new : LockstepCopy) (spare ticked : ℕ) (next : Phase) (later : List Phase)
-    (on : SlotGoesOn design plan fault slot begins from until number place runner before behind notes own spare ticked) (through : place.left ≡ []) (follows : place.later ≡ next ∷ later)
+    (place : Place) (runner : Runner) (before behind : MomentKept) (notes cleared : NotesKept) (own new : LockstepCopy) (spare : ℕ) (tried : List TriedStep) (apart : List RunApart) (next : Phase) (later : List Phase)
+    (on : SlotGoesOn design plan fault slot begins from until number place runner before behind notes own spare tried apart) (through : place.left ≡ []) (follows : place.later ≡ next ∷ later)
     (clean : phase_race (faulty_machine design fault) on.goes.at.phase_begins on.goes.at.events ≡ None) (none : HasNoNotes before.moment cleared) where
   over : GoesOverTurn design plan fault slot begins from until before.moment place on.goes.at cleared (kept_by own) spare next later
   over =
@@ -179,7 +179,7 @@ module _ (steps : StepsGoOn) (follow : PhasesFollow) (lanes : LanesTellTurns) (d
   pub turns-over : (new_runner : Runner) (new_before new_behind : MomentKept) → IsWhole new_runner → machine_of new_runner ≡ machine_of runner →
       state_of new_runner ≡ turned_by (turn_of (state_of runner)) (state_of runner) → TakesTurn design plan place next later before new_before →
       TakesTurn design plan place next later behind new_behind → TurnsAll slot.begins.time new_before own new →
-      SlotGoesOn design plan fault slot begins from until number (next_phase next later place) new_runner new_before new_behind cleared new spare ticked
+      SlotGoesOn design plan fault slot begins from until number (next_phase next later place) new_runner new_before new_behind cleared new spare tried apart
   turns-over new_runner new_before new_behind whole machine state first second all =
       let good = state_there (good_machine design) place in
       let stands = on.goes.going.stands in

@@ -144,9 +144,9 @@ take_own-requires-clause-goes g c κs within =
     let ends = on.ends in
     let more = c.requires.more in
     own-again design plan c.args.time room.runner room.before c.pass_block.new.self room.counts c.faults.room.runner c.faults.room.before c.faults.room.behind c.faults.room.counts
-    c.faults.invariant.waits window.before window.through may.time_is (fault_of each.fault) each.one.notes each.one.own each.one.spare each.one.ticked
+    c.faults.invariant.waits window.before window.through may.time_is (fault_of each.fault) each.one.notes each.one.own each.one.spare each.one.tried.items each.one.apart.items
     (may-run-own design plan (fault_of each.fault) on.may.slot on.may.begins window.before window.through on.may.number on.may.place room.runner room.before room.behind c.pass_block.new.self
-    each.one.notes each.one.own each.one.spare each.one.ticked on.may.on (c.in_ok-pass_block.ensures on.may.place on.may.on.room.at.behind_at (omega (arith, ends, more))) room.counts may.counts_are)
+    each.one.notes each.one.own each.one.spare each.one.tried.items each.one.apart.items on.may.on (c.in_ok-pass_block.ensures on.may.place on.may.on.room.at.behind_at (omega (arith, ends, more))) room.counts may.counts_are)
 
 pub faults-preserved : goal.faults-preserved
 faults-preserved g c =

@@ -147,7 +147,7 @@ returns-clause-own g c =
       took = λ now goes of.
           subst
           (λ (e : FaultBeside). FaultGoes design plan (fault_of c.args.each.now.fault) of.slot of.begins window.before window.through behind.moment (behind_events of.block of.rest of.place) e.one.notes
-          e.one.own e.one.spare e.one.ticked)
+          e.one.own e.one.spare e.one.tried.items e.one.apart.items)
           (sym looks.same) (c.in_ok-run_own_block.ensures.goes went of);
       most = λ now goes of.
           subst (λ (e : FaultBeside). e.one.ticked ≤ slot_steps_of design c.args.each.now.fault of.begins) (sym looks.same) (c.in_ok-run_own_block.ensures.most of);
