@@ -13,7 +13,7 @@ use Rattle.v_design.specs.Runs.{FirstSlot, first_run, first_slots, most_moves, m
 use Rattle.v_design.specs.States.{State, start}
 use Rattle.order_laws.proofs.FirstOrder.SlotMoves.{slot_may}
 use Rattle.machine_laws.specs.SlotLoop.{slot_from}
-use Rattle.copy_laws.specs.Windows.{good_slots, window_slots}
+use Rattle.copy_laws.specs.Windows.{WindowEnd, good_slots, window_slots}
 use Rattle.between_slots.specs.Between.{window_phases}
 use Rattle.between_slots.specs.WindowLaws.{window_phases-more, window_phases-part}
 use Rattle.process_code.specs.OneCode.{CodesReadAlike}
@@ -33,6 +33,7 @@ use Rattle.window_runs.specs.declared.phase.PhaseRuns.{PhaseRuns}
 use Rattle.good_trace.specs.Beginnings.{AreTimes, IsTimeAt, AreBeginnings, IsBeginning}
 use Rattle.good_trace.specs.BesideSlots.{TellsSlots, slot_runs}
 use Rattle.good_trace.specs.RunsKept.{HasRuns}
+use Rattle.good_trace.specs.Traces.{WindowKept}
 use Rattle.good_trace.specs.declared.beside.WindowSlots.{WindowSlots}
 use Rattle.good_trace.specs.declared.pushed.SlotBeginning.{SlotBeginning}
 use Rattle.v_design.specs.Accesses.{ObjectAccess}
@@ -231,6 +232,11 @@ module _ (alike : CodesReadAlike) (design : FlatDesign) (plan : TestPlan) (befor
         omega (arith, here_first, here_next, parts, all);
     each = slot-tells;
   }
+
+  -- the same of the window as it is seen
+  pub seen-tell : (seen : WindowKept) (ending : WindowEnd) → record { before = before; through = through; ending = ending } ≡ seen →
+      TellsSlots design (window_slots design plan seen.before seen.through) told
+  seen-tell seen ending same = subst (λ (k : WindowKept). TellsSlots design (window_slots design plan k.before k.through) told) same slots-tell
 
 -- Finding a slot by its time
 
