@@ -6,4 +6,4 @@ use Rattle.process_table.proofs.table.ProcessTable.processes.Goals as goal
 pub returns : goal.returns
 returns c =
     let t = c.args.self.now in
-    count-texts (design_of t.design.now) t.time t.rows.items t.index t.ready t.lanes t.queue c.requires
+    c.len.ensures ∙ count-texts (design_of t.design.now) t.time t.rows.items t.index t.ready t.lanes t.queue c.requires.kept
