@@ -46,7 +46,7 @@ fn make_room(ended: &mut Vec<RunEnd>, processes: usize) -> Result<(), NoMemory>
 }
 
 /// Empties a list, whose memory is used again, into one that takes just as much as it needs.
-fn take_list<T>(alloc: Global, list: &mut Vec<T>) -> Result<Seq<T>, NoMemory>
+fn take_list<T: Drop>(alloc: Global, list: &mut Vec<T>) -> Result<Seq<T>, NoMemory>
     ensures taken { IfOk result (λ taken. taken ≡ list.old.items) }
     ensures empty { OnOk result (list.new.items ≡ []) }
 {
