@@ -6,6 +6,7 @@ use Rattle.v_design.specs.Runs.{FirstSlot}
 use Rattle.faulty_block.specs.block_events.declared.runner.Runner.{Runner}
 use Rattle.faulty_block.specs.block_events.Runners.{IsWhole, machine_of, state_of}
 use Rattle.block_told.specs.declared.told.BlockTold.{BlockTold}
+use Rattle.good_moment.specs.moment_laws.Places.{IsInWindow}
 use Rattle.good_moment.specs.moment_laws.Shown.{MomentKept}
 use Rattle.faulty_block.specs.lockstep_copy.declared.own.LockstepCopy.{LockstepCopy}
 use Rattle.faulty_block.specs.lockstep_room.declared.counts.Counts.{Counts}
@@ -27,6 +28,7 @@ pub record MayRunOwn (design : FlatDesign) (plan : TestPlan) (fault : StuckAt) (
   pub block : List Event
   pub rest : List Event
   pub counts_are : AreCounts design counts
+  pub within : IsInWindow from until before
   pub beside : IsBesideBlock design plan place block rest runner before behind
   pub goes : FaultGoes design plan fault slot begins from until before.moment place notes own spare tried apart
   pub early : slot.begins.time ≤ 2 ^ 63

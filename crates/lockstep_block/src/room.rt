@@ -7,7 +7,7 @@ ghost use Rattle.faulty_block.specs.lockstep_room.Rooms.{AreCounts};
 ghost use Rattle.lockstep_block.specs.Rooms.{IsLockstepRoom};
 
 use block_told::BlockTold;
-use faulty_block::{Counts, LockstepCopy, Runner};
+use faulty_block::{Beside, Counts, LockstepCopy, Runner};
 use good_moment::GoodMoment;
 use good_runs::TriedStep;
 use good_trace::Setup;
@@ -20,13 +20,15 @@ use std::alloc::Global;
 use v_design::{View, World};
 use vf_base::NoMemory;
 
-/// Room for the faults of a shard in lockstep: one runner, the good machine's state before a block and behind it, what a block tells, and room for the filter of a phase.
+/// Room for the faults of a shard in lockstep: one runner, the good machine's state before a block and behind it, what a block tells, the runs of a block beside the good machine's, and room for the
+/// filter of a phase.
 #[derive(Drop)]
 pub struct LockstepRoom<'d, N: World> {
     pub runner: Runner<'d>,
     pub before: GoodMoment<N>,
     pub behind: GoodMoment<N>,
     pub told: BlockTold,
+    pub beside: Beside,
     pub filter: FilterRoom<'d, N>,
     pub counts: Counts,
 }
@@ -91,6 +93,7 @@ impl<'d, N: World> LockstepRoom<'d, N> {
             before,
             behind,
             told: BlockTold::new(alloc),
+            beside: Beside::new(alloc),
             filter,
             counts,
         })
