@@ -7,7 +7,7 @@ use Rattle.v_design.specs.OwnSteps.{good_steps}
 use Rattle.copy_laws.specs.Windows.{IsWindow, WindowEnd, good_slots}
 use Rattle.good_trace.specs.Traces.{WindowKept}
 use Rattle.good_windows.specs.Next.{AllStand, IsNextWindow, LoopsBehind, RunKept, steps_of_slots}
-use Rattle.kept_shard.specs.graded_steps.Behind.{RisesTwice}
+use Rattle.kept_shard.specs.graded_steps.Behind.{RisesWithin}
 use Rattle.kept_shard.specs.machine.Ticks.{process_steps}
 use Rattle.kept_shard.specs.Keeping.{KeepingShard}
 use Rattle.dict_windows.specs.Faults.{all_steps}
@@ -51,7 +51,7 @@ module _ {N : Type 0} (design : FlatDesign) (plan : TestPlan) (gone now : ℕ) w
 module _ (design : FlatDesign) (plan : TestPlan) where
   -- the good machine's of a window, and behind them the faulty machines'
   pub rises-by : (ran later before mid after : ℕ) (shards moved : List KeepingShard) → mid + steps_of_slots design plan ran ≤ before + steps_of_slots design plan later →
-      RisesTwice (all_steps design plan shards) (all_steps design plan moved) mid after → RisesBeside design plan ran shards before later moved after
+      RisesWithin (all_steps tally shards) (all_steps tally moved) mid after → RisesBeside design plan ran shards before later moved after
   rises-by ran later before mid after shards moved good faulty = omega (arith, good, faulty)
 
   -- window after window
@@ -60,7 +60,7 @@ module _ (design : FlatDesign) (plan : TestPlan) where
   rises-more one two three before mid after shards moved further r s = omega (arith, r, s)
 
   -- in all
-  pub rises-all : (ran later before after most : ℕ) (shards moved : List KeepingShard) → RisesBeside design plan ran shards before later moved after → ran ≡ 0 → all_steps design plan moved ≤ most →
+  pub rises-all : (ran later before after most : ℕ) (shards moved : List KeepingShard) → RisesBeside design plan ran shards before later moved after → ran ≡ 0 → all_steps tally moved ≤ most →
       after ≤ before + (good_steps design plan + 2 * most)
   rises-all ran later before after most shards moved rises none within =
       let slots : steps_of_slots design plan later ≤ good_steps design plan = sum_by-take-le process_steps (good_slots design plan) later in

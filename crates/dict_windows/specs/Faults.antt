@@ -16,7 +16,7 @@ HaveGone gone shards = All (λ (shard : KeepingShard). shard.gone ≡ gone) shar
 
 -- the process steps that the full grades of their faults have taken
 abbrev pub all_steps : FlatDesign → TestPlan → List KeepingShard → ℕ
-all_steps design plan shards = sum_by (kept_steps_of design plan) shards
+all_steps tally shards = sum_by (kept_steps_of tally) shards
 
 -- of each of some faults the whole full grade is kept
 abbrev pub AreWhole : FlatDesign → TestPlan → List Kept → Type 0

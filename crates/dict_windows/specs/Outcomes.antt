@@ -26,5 +26,5 @@ IsOutcome design plan numbers (GoodLoop time) = LoopsAt design plan time
 -- where all was kept, a counter rose by no more than the process steps of the good first run and twice all those of the faults of these numbers, each through the end of its full grade, or the
 -- plan's end
 abbrev pub OutcomeTicks : FlatDesign → TestPlan → List ℕ → ℕ → ℕ → Outcome → Type 0
-OutcomeTicks design plan numbers before after (Made gathered) = after ≤ before + (good_steps design plan + 2 * sum_by (full_steps_at design plan) numbers)
+OutcomeTicks design plan numbers before after (Made gathered) = after ≤ before + (good_steps design plan + 2 * sum_by (full_steps_at tally) numbers)
 OutcomeTicks design plan numbers before after (GoodLoop time) = Unit {0}

@@ -19,7 +19,7 @@ LoopsAt design plan time = good_stop design plan ≡ Some (record { time = time;
 -- a counter rose by no more than the process steps of the good first run from so many slots to so many, and twice what the full grades of the faults of some shards took in between
 abbrev pub RisesBeside : FlatDesign → TestPlan → ℕ → List KeepingShard → ℕ → ℕ → List KeepingShard → ℕ → Type 0
 RisesBeside design plan ran shards before later moved after =
-    after + (steps_of_slots design plan ran + 2 * all_steps design plan shards) ≤ before + (steps_of_slots design plan later + 2 * all_steps design plan moved)
+    after + (steps_of_slots design plan ran + 2 * all_steps tally shards) ≤ before + (steps_of_slots design plan later + 2 * all_steps tally moved)
 
 module _ {N : Type 0} where
   -- the strobes have seen the good machine behind so many slots, through which the shards have gone

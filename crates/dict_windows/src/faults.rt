@@ -68,7 +68,7 @@ pub(crate) fn advance_all<'d, N: World, L: Ledger>(
     requires { HaveGone window.now.before shards.old.items }
     ensures gone { OnOk result (HaveGone window.now.through shards.new.items) }
     ensures faults { OnOk result (faults_in shards.new.items ≡ faults_in shards.old.items) }
-    ensures ticks { OnOk result (RisesTwice (all_steps N.design N.plan shards.old.items) (all_steps N.design N.plan shards.new.items) steps.old steps.new) }
+    ensures ticks { OnOk result (RisesOwn N.design N.plan (λ tally. all_steps tally shards.old.items) (λ tally. all_steps tally shards.new.items) steps.old steps.new) }
 {
     'shards: for place in 0..shards.len() {
         let own = &mut shards[place];

@@ -58,18 +58,18 @@ module _ (run : GoodRunGoesOn) (design : FlatDesign) (plan : TestPlan) (rules : 
     end-takes (Some (End_race side pair)) is = refl
     end-takes (Some (End_hyper time)) is = refl
 
-    kept-takes : steps_of_kept design plan gone kept ≡ steps_taken design plan gone stands.fault own.end
+    kept-takes : steps_of_kept tally gone kept ≡ steps_taken design plan gone stands.fault own.end
     kept-takes =
         ap (λ (o : Option StuckAt). elim o as (λ _. ℕ) [ None ↦ 0 | Some f ↦ steps_taken design plan gone f kept.end ]) (ap (slice_get plan.faults) stands.number ∙ stands.listed)
         ∙ (ap (steps_taken design plan gone stands.fault) stands.end_is ∙ end-takes own.end refl)
 
-    pub kept-as-own : steps_of_kept design plan gone kept ≡ steps_of_fault design plan gone own
+    pub kept-as-own : steps_of_kept tally gone kept ≡ steps_of_fault tally gone own
     kept-as-own = kept-takes ∙ sym (steps-are design plan gone own stands.fault stands.listed)
 
     -- and no more than all
-    pub kept-within : GradingsTakeSteps → steps_of_kept design plan gone kept ≤ full_steps_at design plan (fault_number kept.fault)
+    pub kept-within : GradingsTakeSteps → steps_of_kept tally gone kept ≤ full_steps_at tally (fault_number kept.fault)
     kept-within law =
-        let all : full_steps_at design plan (fault_number kept.fault) ≡ fault_steps design (plan_by true plan) stands.fault =
+        let all : full_steps_at tally (fault_number kept.fault) ≡ fault_steps design (plan_by true plan) stands.fault =
         ap (λ (o : Option StuckAt). elim o as (λ _. ℕ) [ None ↦ 0 | Some f ↦ fault_steps design (plan_by true plan) f ]) (ap (slice_get plan.faults) stands.number ∙ stands.listed) in
         let most : steps_taken design (plan_by true plan) gone stands.fault own.end ≤ fault_steps design (plan_by true plan) stands.fault =
         law.within design (plan_by true plan) gone (beside_by design stands.fault own) rules stands.beside in
@@ -85,41 +85,41 @@ module _ (run : GoodRunGoesOn) (design : FlatDesign) (plan : TestPlan) (rules : 
 
 module _ (run : GoodRunGoesOn) (design : FlatDesign) (plan : TestPlan) (gone : ℕ) (reached : Reached) (faults : List ShardFault) (kepts : List Kept)
     (shard : IsKeeping design plan gone reached faults kepts) where
-  pub all-within : GradingsTakeSteps → sum_by (steps_of_kept design plan gone) kepts ≤ sum_by (full_steps_at design plan) (numbers_of kepts)
-  all-within law = go kepts (all-at (λ (kept : Kept). steps_of_kept design plan gone kept ≤ full_steps_at design plan (fault_number kept.fault)) kepts (λ place kept here.
+  pub all-within : GradingsTakeSteps → sum_by (steps_of_kept tally gone) kepts ≤ sum_by (full_steps_at tally) (numbers_of kepts)
+  all-within law = go kepts (all-at (λ (kept : Kept). steps_of_kept tally gone kept ≤ full_steps_at tally (fault_number kept.fault)) kepts (λ place kept here.
       let own = there faults place (let low = slice_get_within kepts place kept here in omega (arith, low, shard.count)) in
       kept-within run design plan shard.rules gone reached.passed own.0 kept (shard.each place own.0 kept own.1 here) law))
     where
-      go : (rest : List Kept) → AllHold (λ (kept : Kept). steps_of_kept design plan gone kept ≤ full_steps_at design plan (fault_number kept.fault)) rest →
-          sum_by (steps_of_kept design plan gone) rest ≤ sum_by (full_steps_at design plan) (numbers_of rest)
+      go : (rest : List Kept) → AllHold (λ (kept : Kept). steps_of_kept tally gone kept ≤ full_steps_at tally (fault_number kept.fault)) rest →
+          sum_by (steps_of_kept tally gone) rest ≤ sum_by (full_steps_at tally) (numbers_of rest)
       go [] all = omega arith
       go (kept ∷ rest) all =
-          let one : steps_of_kept design plan gone kept ≤ full_steps_at design plan (fault_number kept.fault) = all.0 in
-          let others : sum_by (steps_of_kept design plan gone) rest ≤ sum_by (full_steps_at design plan) (numbers_of rest) = go rest all.1 in
-          let a : sum_by (steps_of_kept design plan gone) (kept ∷ rest) ≡ steps_of_kept design plan gone kept + sum_by (steps_of_kept design plan gone) rest =
-          sum_by-cons (steps_of_kept design plan gone) kept rest in
-          let b : sum_by (full_steps_at design plan) (numbers_of (kept ∷ rest)) ≡ full_steps_at design plan (fault_number kept.fault) + sum_by (full_steps_at design plan) (numbers_of rest) =
-          sum_by-cons (full_steps_at design plan) (fault_number kept.fault) (numbers_of rest) in
+          let one : steps_of_kept tally gone kept ≤ full_steps_at tally (fault_number kept.fault) = all.0 in
+          let others : sum_by (steps_of_kept tally gone) rest ≤ sum_by (full_steps_at tally) (numbers_of rest) = go rest all.1 in
+          let a : sum_by (steps_of_kept tally gone) (kept ∷ rest) ≡ steps_of_kept tally gone kept + sum_by (steps_of_kept tally gone) rest =
+          sum_by-cons (steps_of_kept tally gone) kept rest in
+          let b : sum_by (full_steps_at tally) (numbers_of (kept ∷ rest)) ≡ full_steps_at tally (fault_number kept.fault) + sum_by (full_steps_at tally) (numbers_of rest) =
+          sum_by-cons (full_steps_at tally) (fault_number kept.fault) (numbers_of rest) in
           omega (arith, one, others, a, b)
 
   module _ (news : List ShardFault) (tolds : List Kept) (swapped : AreSwapped faults kepts news tolds) where
     -- with their samples they take the same
-    pub taken-before : steps_of_faults design plan gone news ≡ sum_by (steps_of_kept design plan gone) kepts
-    taken-before = same-sums (steps_of_kept design plan gone) (steps_of_fault design plan gone) kepts news (let a = swapped.count in omega (arith, a, shard.count)) (λ place kept new here there_new.
+    pub taken-before : steps_of_faults tally gone news ≡ sum_by (steps_of_kept tally gone) kepts
+    taken-before = same-sums (steps_of_kept tally gone) (steps_of_fault tally gone) kepts news (let a = swapped.count in omega (arith, a, shard.count)) (λ place kept new here there_new.
         let at = each-swapped faults kepts news tolds swapped shard.count place new there_new in
         let same : at.1 ≡ kept = same_Some at.1 kept (sym at.4 ∙ here) in
-        ap (steps_of_fault design plan gone) at.6.has.stays
-        ∙ (sym (kept-as-own run design plan shard.rules gone reached.passed at.0 at.1 (shard.each place at.0 at.1 at.3 at.4)) ∙ ap (steps_of_kept design plan gone) same))
+        ap (steps_of_fault tally gone) at.6.has.stays
+        ∙ (sym (kept-as-own run design plan shard.rules gone reached.passed at.0 at.1 (shard.each place at.0 at.1 at.3 at.4)) ∙ ap (steps_of_kept tally gone) same))
 
     module _ (through : ℕ) (behind : Reached) (came : List ShardFault) (zip : AllZip (ComesThrough design plan through behind.passed) news came) (reaches : HasReachedIfOpen design plan through behind came)
         (some : 0 < through) (within : through ≤ length (good_slots design plan)) (lasts : List ShardFault) (ends : List Kept) (back : AreSwapped came tolds lasts ends) where
-      pub taken-behind : sum_by (steps_of_kept design plan through) ends ≡ steps_of_faults design plan through came
+      pub taken-behind : sum_by (steps_of_kept tally through) ends ≡ steps_of_faults tally through came
       taken-behind =
           let count = told-count design plan gone reached faults kepts shard news tolds swapped through behind came zip in
-          same-sums (steps_of_fault design plan through) (steps_of_kept design plan through) came ends (let b = back.kept_count in omega (arith, count, b)) (λ place own end here there_end.
+          same-sums (steps_of_fault tally through) (steps_of_kept tally through) came ends (let b = back.kept_count in omega (arith, count, b)) (λ place own end here there_end.
           let last = there lasts place (let low = slice_get_within came place own here in let a = back.count in omega (arith, low, a)) in
           let at = each-swapped came tolds lasts ends back count place last.0 last.1 in
           let same : at.0 ≡ own = same_Some at.0 own (sym at.3 ∙ here) in
           kept-as-own run design plan shard.rules through behind.passed last.0 end
           (came-kept design plan gone reached faults kepts shard news tolds swapped through behind came zip reaches some within lasts ends back place last.0 end last.1 there_end)
-          ∙ (ap (steps_of_fault design plan through) at.6.has.stays ∙ ap (steps_of_fault design plan through) same))
+          ∙ (ap (steps_of_fault tally through) at.6.has.stays ∙ ap (steps_of_fault tally through) same))

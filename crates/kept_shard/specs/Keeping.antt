@@ -49,12 +49,12 @@ KeepsAll design plan shard = length (good_slots design plan) ≡ shard.gone → 
 
 -- the process steps that the grading of a fault takes behind so many slots of the good first run, where no strobe ends it: up to there, or in all, where it ended by a race or a loop
 abbrev pub steps_of_kept : FlatDesign → TestPlan → ℕ → Kept → ℕ
-steps_of_kept design plan gone kept = elim (slice_get plan.faults (fault_number kept.fault)) [ None ↦ 0 | Some fault ↦ steps_taken design plan gone fault kept.end ]
+steps_of_kept tally gone kept = elim (slice_get plan.faults (fault_number kept.fault)) [ None ↦ 0 | Some fault ↦ steps_taken design plan gone fault kept.end ]
 
 -- those of all faults of a shard
 abbrev pub kept_steps_of : FlatDesign → TestPlan → KeepingShard → ℕ
-kept_steps_of design plan shard = sum_by (steps_of_kept design plan shard.gone) shard.kept
+kept_steps_of tally shard = sum_by (steps_of_kept tally shard.gone) shard.kept
 
 -- all process steps that the fault of a number takes: through the end of its full grade, or the plan's end
 abbrev pub full_steps_at : FlatDesign → TestPlan → ℕ → ℕ
-full_steps_at design plan number = elim (slice_get plan.faults number) [ None ↦ 0 | Some fault ↦ fault_steps design (plan_by true plan) fault ]
+full_steps_at tally number = elim (slice_get plan.faults number) [ None ↦ 0 | Some fault ↦ fault_steps design (plan_by true plan) fault ]

@@ -98,7 +98,7 @@ impl<N: World> KeptShard<N> {
         requires { window.now.before ≡ self.old.gone }
         ensures gone { OnOk result (self.new.gone ≡ window.now.through) }
         ensures numbers { OnOk result (numbers_of self.new.kept ≡ numbers_of self.old.kept) }
-        ensures ticks { OnOk result (RisesTwice (kept_steps_of N.design N.plan self.old) (kept_steps_of N.design N.plan self.new) steps.old steps.new) }
+        ensures ticks { OnOk result (RisesOwn N.design N.plan (λ tally. kept_steps_of tally self.old) (λ tally. kept_steps_of tally self.new) steps.old steps.new) }
         ensures err { OnErr result (self.new ≡ record self.old { kept = [] }) }
     {
         beside_laws::good_run_goes_on();

@@ -42,7 +42,7 @@ module _ {N : Type 0} where
 
   -- those of a worker's shards, once it has claimed
   abbrev pub worker_steps : FlatDesign → TestPlan → Worker N → ℕ
-  worker_steps design plan worker = if worker.dry then claimed_steps design plan worker.shards.items else 0
+  worker_steps tally worker = if worker.dry then claimed_steps tally worker.shards.items else 0
 
   -- a seat that has drawn no claim, moved no word, and has the share of one worker
   pub record IsNewSeat (board : Board N) (seat : Seat N) : Type 0 where

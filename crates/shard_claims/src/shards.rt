@@ -29,7 +29,7 @@ pub(crate) fn advance_all<'d, N: World, G, L: Ledger>(
     requires { All (IsClaimed (representatives_of round.now.shards.now) round.now.window.now.before) shards.old.items }
     ensures through { OnOk result (All (IsClaimed (representatives_of round.now.shards.now) round.now.window.now.through) shards.new.items) }
     ensures numbers { OnOk result (numbers_of shards.new.items ≡ numbers_of shards.old.items) }
-    ensures ticks { OnOk result (RisesTwice (claimed_steps N.design N.plan shards.old.items) (claimed_steps N.design N.plan shards.new.items) steps.old steps.new) }
+    ensures ticks { OnOk result (RisesOwn N.design N.plan (λ tally. claimed_steps tally shards.old.items) (λ tally. claimed_steps tally shards.new.items) steps.old steps.new) }
 {
     advance_together(alloc, round.setup, round.window, shards, room, steps)?;
     Ok(())

@@ -3,7 +3,7 @@ use Rattle.std.specs.Prelude.{◌≡◌, ℕ, ◌+◌, ◌*◌, ◌^◌, IsTrue,
 use Rattle.std.specs.List.{All, flat_map}
 use Rattle.copy_laws.specs.Windows.{good_slots}
 use Rattle.shard_claims.specs.copy_shard.Shards.{fault_steps_at, places_of, findings_of}
-use Rattle.shard_claims.specs.graded_steps.Behind.{RisesTwice}
+use Rattle.shard_claims.specs.graded_steps.Behind.{RisesWithin}
 use Rattle.fault_shards.specs.Found.{found_faults}
 use Rattle.verdict_settle.specs.Harvests.{IsHarvest, claimed_faults}
 use Rattle.verdict_words.specs.Seats.{view, IsSeatOf}
@@ -18,7 +18,7 @@ use Rattle.shard_crew.specs.declared.gathered.Gathered.{Gathered}
 
 -- some counters rose together by no more than twice what one number is above another
 pub record RoseTwice (from to : ℕ) (before after : List ℕ) : Type 0 where
-  pub rises : RisesTwice from to (sum before) (sum after)
+  pub rises : RisesWithin from to (sum before) (sum after)
 
 module _ {N : Type 0} where
   -- Shards
@@ -37,18 +37,18 @@ module _ {N : Type 0} where
 
   -- all process steps that the gradings of the faults of some claimed shards take
   abbrev pub claimed_most : FlatDesign → TestPlan → List (ClaimedShard N) → ℕ
-  claimed_most design plan shards = sum_by (λ (claimed : ClaimedShard N). sum_by (fault_steps_at design plan) (places_of claimed.shard.faults)) shards
+  claimed_most tally shards = sum_by (λ (claimed : ClaimedShard N). sum_by (fault_steps_at tally) (places_of claimed.shard.faults)) shards
 
   -- Workers
 
   -- the process steps that the gradings of the faults of their shards take
   abbrev pub crew_steps : FlatDesign → TestPlan → List (Worker N) → ℕ
-  crew_steps design plan workers = sum_by (worker_steps design plan) workers
+  crew_steps tally workers = sum_by (worker_steps tally) workers
 
   -- those of a worker, if there is one
   abbrev pub steps_in : FlatDesign → TestPlan → Option (Worker N) → ℕ
-  steps_in design plan None = 0
-  steps_in design plan (Some worker) = worker_steps design plan worker
+  steps_in tally None = 0
+  steps_in tally (Some worker) = worker_steps tally worker
 
   -- so many workers behind so many slots
   pub record AreWorkersAt (representatives : List ℕ) (board : Board N) (gone count : ℕ) (workers : List (Worker N)) : Type 0 where

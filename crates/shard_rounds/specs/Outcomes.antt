@@ -11,7 +11,7 @@ use Rattle.shard_crew.specs.Crews.{HasGathered, claimed_most}
 module _ {N : Type 0} where
   -- where all faults were graded, the counters rose by no more than the process steps of the good first run and twice those that the gradings of all faults of the shards take
   abbrev pub OutcomeTicks : FlatDesign → TestPlan → ℕ → ℕ → Outcome N → Type 0
-  OutcomeTicks design plan before after (Graded gathered) = after ≤ before + (good_steps design plan + 2 * claimed_most design plan gathered.shards.items)
+  OutcomeTicks design plan before after (Graded gathered) = after ≤ before + (good_steps design plan + 2 * claimed_most tally gathered.shards.items)
   OutcomeTicks design plan before after (GoodLoop time) = Unit {0}
 
   -- all faults were graded, by the seat that is left, and the good machine never loops before a race of its own; or it loops at a time

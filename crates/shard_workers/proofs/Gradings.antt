@@ -63,7 +63,7 @@ rose-graded design plan before after work graded ticks = record {
   representatives = graded.closing.representatives;
   are_all = graded.closing.are_all;
   within =
-      let same : work_steps design plan work.shards.items ≡ sum_by (fault_steps_at design plan) graded.closing.representatives =
-      shards-sum (fault_steps_at design plan) graded.closing.representatives work.shards.items graded.shards_are in
+      let same : work_steps tally work.shards.items ≡ sum_by (fault_steps_at tally) graded.closing.representatives =
+      shards-sum (fault_steps_at tally) graded.closing.representatives work.shards.items graded.shards_are in
       omega (arith, same, ticks);
 }

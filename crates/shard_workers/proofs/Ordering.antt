@@ -148,15 +148,15 @@ module _ {N : Type 0} (representatives : List ℕ) (gone count : ℕ) (v : View)
 
 -- The process steps of the shards
 
-steps-map : {N : Type 0} (design : FlatDesign) (plan : TestPlan) (claimed : List (ClaimedShard N)) → work_steps design plan (map claimed_shard claimed) ≡ claimed_most design plan claimed
+steps-map : {N : Type 0} (design : FlatDesign) (plan : TestPlan) (claimed : List (ClaimedShard N)) → work_steps tally (map claimed_shard claimed) ≡ claimed_most tally claimed
 steps-map design plan [] = refl
 steps-map design plan (one ∷ claimed) =
-    sum_by-cons (λ (own : ShardKept). sum_by (fault_steps_at design plan) (places_of own.faults)) one.shard (map claimed_shard claimed)
-    ∙ (ap (λ n. sum_by (fault_steps_at design plan) (places_of one.shard.faults) + n) (steps-map design plan claimed)
-    ∙ sym (sum_by-cons (λ (c : ClaimedShard _). sum_by (fault_steps_at design plan) (places_of c.shard.faults)) one claimed))
+    sum_by-cons (λ (own : ShardKept). sum_by (fault_steps_at tally) (places_of own.faults)) one.shard (map claimed_shard claimed)
+    ∙ (ap (λ n. sum_by (fault_steps_at tally) (places_of one.shard.faults) + n) (steps-map design plan claimed)
+    ∙ sym (sum_by-cons (λ (c : ClaimedShard _). sum_by (fault_steps_at tally) (places_of c.shard.faults)) one claimed))
 
 pub steps-ordered : {N : Type 0} (design : FlatDesign) (plan : TestPlan) (claimed : List (ClaimedShard N)) (shards : List ShardKept) → AreOrdered claimed shards →
-    claimed_most design plan claimed ≡ work_steps design plan shards
+    claimed_most tally claimed ≡ work_steps tally shards
 steps-ordered design plan claimed shards ordered =
-    sym (sum_by-IsPermutation (λ (c : ClaimedShard _). sum_by (fault_steps_at design plan) (places_of c.shard.faults)) claimed ordered.sorted ordered.permuted)
-    ∙ (sym (steps-map design plan ordered.sorted) ∙ sym (ap (work_steps design plan) ordered.shards_are))
+    sym (sum_by-IsPermutation (λ (c : ClaimedShard _). sum_by (fault_steps_at tally) (places_of c.shard.faults)) claimed ordered.sorted ordered.permuted)
+    ∙ (sym (steps-map design plan ordered.sorted) ∙ sym (ap (work_steps tally) ordered.shards_are))

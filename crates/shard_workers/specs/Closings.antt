@@ -58,7 +58,7 @@ module _ {N : Type 0} where
 
   -- where all faults were graded, counters rose by no more than the process steps of the good first run, and twice those that the gradings of the faults of all shards take
   abbrev pub GradedTicks : FlatDesign → TestPlan → ℕ → ℕ → Graded N → Type 0
-  GradedTicks design plan before after (Findings work) = after ≤ before + (good_steps design plan + 2 * work_steps design plan work.shards.items)
+  GradedTicks design plan before after (Findings work) = after ≤ before + (good_steps design plan + 2 * work_steps tally work.shards.items)
   GradedTicks design plan before after (GoodLoop time) = Unit {0}
 
   -- so all faults were graded; or the good machine loops at a time, before a race of its own

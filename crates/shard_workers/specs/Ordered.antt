@@ -7,7 +7,7 @@ use Rattle.shard_rounds.specs.copy_shard.declared.together.ClaimedShard.{Claimed
 
 -- all process steps that the gradings of the faults of some shards take
 abbrev pub work_steps : FlatDesign → TestPlan → List ShardKept → ℕ
-work_steps design plan shards = sum_by (λ (own : ShardKept). sum_by (fault_steps_at design plan) (places_of own.faults)) shards
+work_steps tally shards = sum_by (λ (own : ShardKept). sum_by (fault_steps_at tally) (places_of own.faults)) shards
 
 module _ {N : Type 0} where
   abbrev pub claim_number : ClaimedShard N → ℕ

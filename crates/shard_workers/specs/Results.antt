@@ -27,7 +27,7 @@ StandsInEveryOrder design plan (GoodLoop time) = Unit {0}
 pub record RoseByGradings (design : FlatDesign) (plan : TestPlan) (before after : ℕ) : Type 0 where
   pub representatives : List ℕ
   pub are_all : AreRepresentatives design plan.faults representatives
-  pub within : after ≤ before + (good_steps design plan + 2 * sum_by (fault_steps_at design plan) representatives)
+  pub within : after ≤ before + (good_steps design plan + 2 * sum_by (fault_steps_at tally) representatives)
 
 -- so they rose where all faults were graded
 abbrev pub PlanTicks : FlatDesign → TestPlan → ℕ → ℕ → PlanGrades → Type 0

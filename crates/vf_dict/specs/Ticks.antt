@@ -11,5 +11,5 @@ use Rattle.dict_text.specs.declared.dictionary.Dict.TheVariants.{Made, GoodLoop}
 -- the end of its full grade, or to the plan's end where that has none. Twice, since a slot that a fault leaves is run again.
 abbrev pub DictTicks : FlatDesign → TestPlan → ℕ → ℕ → Dict → Type 0
 DictTicks design plan before after (Made dictionary) =
-    (representatives : List ℕ) × AreRepresentatives design plan.faults representatives × (after ≤ before + (good_steps design plan + 2 * sum_by (full_steps_at design plan) representatives))
+    (representatives : List ℕ) × AreRepresentatives design plan.faults representatives × (after ≤ before + (good_steps design plan + 2 * sum_by (full_steps_at tally) representatives))
 DictTicks design plan before after (GoodLoop time) = Unit {0}

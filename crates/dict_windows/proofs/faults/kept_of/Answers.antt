@@ -27,7 +27,7 @@ shards-preserved g c =
           c.in_ok-push_kept.ensures.faults;
       whole = c.in_ok-push_kept.ensures.whole c.shards.invariant.whole;
       steps = λ rules.
-          steps-more design plan (all_steps design plan all) before after c.in-Some.shard rest
-          (subst (λ (l : List KeepingShard). all_steps design plan all ≤ sum_by (full_steps_at design plan) (numbers_of before) + all_steps design plan l) next (c.shards.invariant.steps rules))
+          steps-more design plan (all_steps tally all) before after c.in-Some.shard rest
+          (subst (λ (l : List KeepingShard). all_steps tally all ≤ sum_by (full_steps_at tally) (numbers_of before) + all_steps tally l) next (c.shards.invariant.steps rules))
           (c.in_ok-push_kept.ensures.steps rules) c.in_ok-push_kept.ensures.faults;
     }

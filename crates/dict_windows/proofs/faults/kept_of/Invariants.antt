@@ -14,6 +14,6 @@ invariant-shards g l = record {
   faults : faults_in l.fn.shards.items ≡ numbers_of l.kept.items ++ faults_in (into_iter_items l.shard-iterator);
   whole : AreWhole g.N.World.design g.N.World.plan l.kept.items;
   steps : KeepsRules g.N.World.design →
-      all_steps g.N.World.design g.N.World.plan l.fn.shards.items
-      ≤ sum_by (full_steps_at g.N.World.design g.N.World.plan) (numbers_of l.kept.items) + all_steps g.N.World.design g.N.World.plan (into_iter_items l.shard-iterator);
+      all_steps tally l.fn.shards.items
+      ≤ sum_by (full_steps_at tally) (numbers_of l.kept.items) + all_steps tally (into_iter_items l.shard-iterator);
 }

@@ -38,7 +38,7 @@ returns-clause-ticks g c =
     let design = g.N.World.design in
     let plan = g.N.World.plan in
     let moved = c.go_through.new.beside.shards.items in
-    rises-all design plan c.args.ahead.now.run.ran c.go_through.new.ahead.run.ran c.args.steps.now c.go_through.new.steps (sum_by (full_steps_at design plan) (representatives_of c.args.shards.now))
+    rises-all design plan c.args.ahead.now.run.ran c.go_through.new.ahead.run.ran c.args.steps.now c.go_through.new.steps (sum_by (full_steps_at tally) (representatives_of c.args.shards.now))
     c.in_ok-own.own.items moved c.in_ok-loops.ensures.ticks c.requires.none.1
-    (subst (λ (l : List _). all_steps design plan moved ≤ sum_by (full_steps_at design plan) l) (c.in_ok-loops.ensures.faults ∙ c.in_ok-own.ensures.faults)
+    (subst (λ (l : List _). all_steps tally moved ≤ sum_by (full_steps_at tally) l) (c.in_ok-loops.ensures.faults ∙ c.in_ok-own.ensures.faults)
     (c.in_ok-faults.ensures.steps c.rules_hold.ensures))

@@ -13,7 +13,7 @@ invariant-claims g l = record {
   moved : (view l.seat).moved ≡ [];
   calls : (view l.seat).calls ≤ claims_of l.round.board.now;
   keeps : KeepsShards (representatives_of l.round.shards.now) l.round.window.now.through (view l.seat) l.shards.items;
-  ticks : l.steps ≤ l.fn.steps + 2 * claimed_steps g.N.World.design g.N.World.plan l.shards.items;
+  ticks : l.steps ≤ l.fn.steps + 2 * claimed_steps tally l.shards.items;
 }
 
 abbrev pub decreases-claims : goal.decreases-claims

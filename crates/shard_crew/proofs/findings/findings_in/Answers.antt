@@ -56,5 +56,5 @@ returns-clause-complete g c =
 pub returns-clause-steps : goal.returns-clause-steps
 returns-clause-steps g c = λ rules.
     let past : length c.args.shards.now ≤ c.shards.claimed-index = c.shards-test.false in
-    subst (λ l. claimed_steps g.N.World.design g.N.World.plan l ≤ claimed_most g.N.World.design g.N.World.plan l) (take_all c.shards.claimed-index c.args.shards.now past)
+    subst (λ l. claimed_steps tally l ≤ claimed_most tally l) (take_all c.shards.claimed-index c.args.shards.now past)
     (c.shards.invariant.steps rules)

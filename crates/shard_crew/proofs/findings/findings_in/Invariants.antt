@@ -13,5 +13,5 @@ invariant-shards g l = record {
   graded : All (IsFinding g.N.World.design g.N.World.plan) l.found.items;
   complete : All IsFoundShard (take l.claimed-index l.shards);
   steps : KeepsRules g.N.World.design →
-      claimed_steps g.N.World.design g.N.World.plan (take l.claimed-index l.shards) ≤ claimed_most g.N.World.design g.N.World.plan (take l.claimed-index l.shards);
+      claimed_steps tally (take l.claimed-index l.shards) ≤ claimed_most tally (take l.claimed-index l.shards);
 }

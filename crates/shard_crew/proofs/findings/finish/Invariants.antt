@@ -11,8 +11,8 @@ invariant-workers g l = record {
   at : AreWorkersAt (representatives_of l.place.shards.now) l.place.board.now (length (good_slots g.N.World.design g.N.World.plan)) (length l.workers.items) l.workers.items;
   joined : HasJoined g.N.World.design g.N.World.plan (representatives_of l.place.shards.now) l.place.board.now (length l.workers.items) l.count l.seat l.findings.items l.shards.items;
   steps :
-      crew_steps g.N.World.design g.N.World.plan l.fn.workers.items
-      ≤ claimed_most g.N.World.design g.N.World.plan l.shards.items + crew_steps g.N.World.design g.N.World.plan l.workers.items;
+      crew_steps tally l.fn.workers.items
+      ≤ claimed_most tally l.shards.items + crew_steps tally l.workers.items;
 }
 
 abbrev pub decreases-workers : goal.decreases-workers

@@ -12,7 +12,7 @@ use Rattle.vf_base.proofs.steps.Steps.TheSendSync as steps_crosses
 use Rattle.shard_claims.proofs.worker.Worker.TheSendSync as worker_crosses
 use Rattle.shard_crew.proofs.Crossing.{option_send, round_sync}
 use Rattle.shard_crew.proofs.Manning.{none-popped, workers-last, workers-more, workers-no}
-use Rattle.shard_claims.specs.graded_steps.Behind.{RisesTwice}
+use Rattle.shard_claims.specs.graded_steps.Behind.{RisesWithin}
 use Rattle.shard_claims.specs.Workers.{IsWorkerAt, worker_steps}
 use Rattle.shard_crew.proofs.Ticks.{crew-more, nothing-rises}
 use Rattle.shard_crew.proofs.threads.+crew+fn-crew-join_mut+arg3.Given.{Over}
@@ -74,7 +74,7 @@ returns-in_default-clause-ticks g t c =
 pub returns-then-count-eq0-clause-ticks : goal.returns-then-count-eq0-clause-ticks
 returns-then-count-eq0-clause-ticks g t c =
     let others = c.split_at_mut-others.result.0.now in
-    let nothing : RisesTwice (crew_steps g.N.World.design g.N.World.plan c.pop.new.self.items) (crew_steps g.N.World.design g.N.World.plan c.pop.new.self.items) (sum others) (sum others) =
+    let nothing : RisesWithin (crew_steps tally c.pop.new.self.items) (crew_steps tally c.pop.new.self.items) (sum others) (sum others) =
     omega arith in record {
       rises =
           crew-more g.N.World.design g.N.World.plan c.args.workers.now.items c.pop.new.self.items c.pop.new.self.items c.push.new.self.items c.in-Some.worker c.in_ok-worker.worker
@@ -100,9 +100,9 @@ returns-clause-through g t c =
 
 pub returns-clause-ticks : goal.returns-clause-ticks
 returns-clause-ticks g t c =
-    let mine : RoseTwice (worker_steps g.N.World.design g.N.World.plan c.in-Some.worker) (worker_steps g.N.World.design g.N.World.plan c.in_ok-worker-2.worker)
+    let mine : RoseTwice (worker_steps tally c.in-Some.worker) (worker_steps tally c.in_ok-worker-2.worker)
     c.split_at_mut-others.result.1.now c.mine-2-1.given.0 = search rules in
-    let others : RoseTwice (crew_steps g.N.World.design g.N.World.plan c.pop.new.self.items) (crew_steps g.N.World.design g.N.World.plan c.workers-1.given.0.items)
+    let others : RoseTwice (crew_steps tally c.pop.new.self.items) (crew_steps tally c.workers-1.given.0.items)
     c.split_at_mut-others.result.0.now c.others-1.given.0 = search rules in record {
       rises =
           crew-more g.N.World.design g.N.World.plan c.args.workers.now.items c.pop.new.self.items c.workers-1.given.0.items c.push-2.new.self.items c.in-Some.worker c.in_ok-worker-2.worker

@@ -30,7 +30,7 @@ returns-clause-next g c =
 
 pub returns-clause-ticks : goal.returns-clause-ticks
 returns-clause-ticks g c =
-    let rose : OnOk c.join_mut-a.result.0 (RoseTwice (crew_steps g.N.World.design g.N.World.plan c.args.workers.now.items) (crew_steps g.N.World.design g.N.World.plan c.workers-1.given.0.items)
+    let rose : OnOk c.join_mut-a.result.0 (RoseTwice (crew_steps tally c.args.workers.now.items) (crew_steps tally c.workers-1.given.0.items)
     c.args.steps.now c.steps-1.given.0) = search rules in
-    subst (λ r. OnOk r (RoseTwice (crew_steps g.N.World.design g.N.World.plan c.args.workers.now.items) (crew_steps g.N.World.design g.N.World.plan c.workers-1.given.0.items)
+    subst (λ r. OnOk r (RoseTwice (crew_steps tally c.args.workers.now.items) (crew_steps tally c.workers-1.given.0.items)
     c.args.steps.now c.steps-1.given.0)) c.in_ok-a.was rose

@@ -17,9 +17,9 @@ close_work-requires-clause-rules g c κs within = subst KeepsRules (sym c.design
 pub returns-clause-ticks : goal.returns-clause-ticks
 returns-clause-ticks g c =
     let most : sum c.grade_rounds.new.own + sum c.grade_rounds.new.steps ≤
-    sum c.args.own.now + sum c.args.steps.now + (good_steps g.N.World.design g.N.World.plan + 2 * claimed_most g.N.World.design g.N.World.plan c.in-Graded.gathered.shards.items) =
+    sum c.args.own.now + sum c.args.steps.now + (good_steps g.N.World.design g.N.World.plan + 2 * claimed_most tally c.in-Graded.gathered.shards.items) =
     subst (λ (o : Outcome _). OutcomeTicks g.N.World.design g.N.World.plan (sum c.args.own.now + sum c.args.steps.now) (sum c.grade_rounds.new.own + sum c.grade_rounds.new.steps) o) c.in-Graded.is
     c.in_ok-outcome.ensures.ticks in
-    let same : claimed_most g.N.World.design g.N.World.plan c.in-Graded.gathered.shards.items ≡ work_steps g.N.World.design g.N.World.plan c.in_ok-work-in-Graded.work.shards.items =
+    let same : claimed_most tally c.in-Graded.gathered.shards.items ≡ work_steps tally c.in_ok-work-in-Graded.work.shards.items =
     c.in_ok-work-in-Graded.ensures.steps in
     omega (arith, most, same)
