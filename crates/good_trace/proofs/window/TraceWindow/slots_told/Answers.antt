@@ -16,4 +16,4 @@ returns g c =
     subst (λ (k : WindowKept). TellsSlots g.N.World.design (window_slots g.N.World.design g.N.World.plan k.before k.through) _) c.self.view_is
     (slots-tell c.codes_are_one.ensures.read g.N.World.design g.N.World.plan w.begins w.ends w.phases w.before.states.items w.slots.runs.items w.index w.slots.times.items
     own.window.events_are.accesses w.slots.beginnings.items own.has_runs own.window.times_are own.window.beginnings_are fits
-    (ends-within g.N.World.design g.N.World.plan w.begins w.ends (end_of w.last) own.window.stands.window) _ c.deref.ensures.value c.deref-2.ensures.value refl c.deref-3.ensures.value)
+    (ends-within g.N.World.design g.N.World.plan w.begins w.ends (end_of w.last) own.window.stands.window).1 _ c.deref.ensures.value c.deref-2.ensures.value refl c.deref-3.ensures.value)
