@@ -45,7 +45,7 @@ pub record TurnsBeside (now : ℕ) (good : MomentKept) (old new : FaultBeside) :
   pub fault : new.fault ≡ old.fault
   pub goes : new.goes ≡ old.goes
   pub spare : new.one.spare ≡ old.one.spare
-  pub tried : new.one.tried ≡ old.one.tried
+  pub tried : new.one.tried.items ≡ old.one.tried.items
   pub turns : new.goes ≡ true → TurnsAll now good old.one.own new.one.own
   pub cleared : new.goes ≡ true → HasNoNotes good.moment new.one.notes
   pub together : new.goes ≡ true → new.one.apart.items ≡ []

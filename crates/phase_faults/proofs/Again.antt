@@ -6,6 +6,7 @@ use Rattle.v_design.specs.Designs.{FlatDesign, TestPlan}
 use Rattle.v_design.specs.Plain.{fault_of, site_of}
 use Rattle.v_design.specs.declared.plan.Fault.{Fault}
 use Rattle.slot_laws.specs.block_events.declared.runner.Runner.{Runner}
+use Rattle.slot_laws.specs.lockstep_block.Blocks.{TriedInSlot}
 use Rattle.slot_laws.specs.copy_skip.Limits.{SiteIsThere}
 use Rattle.slot_laws.specs.lockstep_room.declared.counts.Counts.{Counts}
 use Rattle.slot_laws.specs.lockstep_room.Rooms.{AreCounts}
@@ -145,7 +146,7 @@ module _ (design : FlatDesign) (plan : TestPlan) (from until : ℕ) (moments : L
                   (come-ends design plan (fault_of old.fault) slot begins from until number place before.moment end next_runner next later each.one.notes each.one.own each.one.spare each.one.tried.items each.one.apart.items
                   come ends)
                   (subst (λ (f : Fault). TriedInSlot design (fault_of f) slot begins each.one.tried.items) (sym one.stays.fault) so_far))
-              | inr stopped ↦ subst (λ (t : Vec TriedStep Global). TriedInSlot design (fault_of old.fault) slot begins t.items) (sym (two.stays.left stopped)) so_far
+              | inr stopped ↦ subst (TriedInSlot design (fault_of old.fault) slot begins) (sym (two.stays.left stopped)) so_far
             ];
         ahead = two.ahead;
       }

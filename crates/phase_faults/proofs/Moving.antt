@@ -26,6 +26,8 @@ use Rattle.trace_window.specs.Moments.{window_events}
 use Rattle.window_blocks.specs.Blocks.{AreBlockMoments}
 use Rattle.slot_laws.specs.Slots.{GoesOverBlock, HasComeOn, IsRoomIn, IsStop, PhaseEndsAt, SlotGoesOn, StopsAt, further}
 use Rattle.slot_laws.proofs.Further.{block-within}
+use Rattle.slot_laws.specs.beside_phases.Laws.{OwnStepsGoOn}
+use Rattle.slot_laws.specs.lockstep_block.Blocks.{TriedInSlot}
 use Rattle.slot_laws.proofs.Going.{passes-on}
 use Rattle.slot_laws.proofs.Own.{further-block, goes-further, may-run-own, moments-same}
 use Rattle.slot_laws.proofs.Rooms.{follows-at, goes-over}
@@ -44,9 +46,10 @@ pub record PhaseLaws : Type 0 where
   pub joins : BlocksJoin
   pub steps : StepsGoOn
   pub limits : LimitsTell
+  pub owns : OwnStepsGoOn
 
-pub phase-laws : PlacesTold → PhasesFollow → PhasesEndBetweenRuns → BlocksJoin → StepsGoOn → LimitsTell → PhaseLaws
-phase-laws told follow rest joins steps limits = record { told = told; follow = follow; rest = rest; joins = joins; steps = steps; limits = limits }
+pub phase-laws : PlacesTold → PhasesFollow → PhasesEndBetweenRuns → BlocksJoin → StepsGoOn → LimitsTell → OwnStepsGoOn → PhaseLaws
+phase-laws told follow rest joins steps limits owns = record { told = told; follow = follow; rest = rest; joins = joins; steps = steps; limits = limits; owns = owns }
 
 pub stays-same : (each : FaultBeside) → StaysBeside each each
 stays-same each = record { fault = refl; before = λ goes. goes; rest = λ goes. record { fault = refl; states = refl }; left = λ gone. refl }
@@ -71,7 +74,7 @@ module _ (laws : PhaseLaws) (design : FlatDesign) (plan : TestPlan) (from until 
     within = stops.within;
     moment_is = moment;
     on =
-        passes-on design plan (fault_of each.fault) slot begins from until number place runner before behind each.one.notes each.one.own each.one.spare each.one.tried.items each.one.apart.items on laws.steps laws.limits count
+        passes-on design plan (fault_of each.fault) slot begins from until number place runner before behind each.one.notes each.one.own each.one.spare each.one.tried.items each.one.apart.items on laws.steps laws.owns laws.limits count
         next_runner next later room moment stops
         (left-within design (site_of each.fault.site) each.one.own.copy (window_events design plan from until) before.moment each.until before.moment next.moment (omega arith) low
         ahead.alone);

@@ -11,6 +11,7 @@ use Rattle.v_design.specs.States.{State}
 use Rattle.machine_laws.specs.SlotLoop.{slot_from}
 use Rattle.slot_laws.specs.block_events.declared.runner.Runner.{Runner}
 use Rattle.slot_laws.specs.copy_skip.Limits.{SiteIsThere}
+use Rattle.slot_laws.specs.lockstep_block.Blocks.{TriedInSlot}
 use Rattle.slot_laws.specs.lockstep_block.declared.room.FaultInSlot.{FaultInSlot}
 use Rattle.slot_laws.specs.lockstep_copy.declared.own.LockstepCopy.{LockstepCopy}
 use Rattle.slot_laws.specs.lockstep_filter.Phases.{IsPhaseNoted}
@@ -25,7 +26,7 @@ use Rattle.slot_laws.specs.graded_steps.Behind.{RisesWithin}
 use Rattle.window_blocks.specs.Kept.{AreBlocksOf, BlocksKept}
 use Rattle.slot_laws.specs.Slots.{IsRoomIn, PhaseEndsAt, SlotGoesOn, SlotMayGoOn, further}
 use Rattle.slot_laws.proofs.Further.{further-all}
-use Rattle.slot_laws.proofs.Going.{are-processes, are-there, clean, noted}
+use Rattle.slot_laws.proofs.Going.{are-processes, are-there, clean, noted, tried-there}
 use Rattle.slot_laws.proofs.Phases.{come-through}
 use Rattle.slot_laws.proofs.Rooms.{time-stays}
 use Rattle.slot_laws.proofs.Stops.{ends-there, phase-end, phase-there}
@@ -134,7 +135,7 @@ module _ (design : FlatDesign) (plan : TestPlan) (from until : ℕ) (moments : L
                     fault = ap (λ (o : FaultInSlot). o.own.copy.fault) one ∙ rest.fault;
                     states = ap (λ (o : FaultInSlot). o.own.copy.states) one ∙ rest.states;
                   };
-              left = λ gone. ap (λ (o : FaultInSlot). o.tried) one ∙ has.stays.left gone;
+              left = λ gone. ap (λ (o : FaultInSlot). o.tried.items) one ∙ has.stays.left gone;
             };
             through = λ goes number slot begins place on.
                 let there = ends number place on.room in

@@ -62,7 +62,7 @@ pub record StaysBeside (old new : FaultBeside) : Type 0 where
   pub fault : new.fault ≡ old.fault
   pub before : new.goes ≡ true → old.goes ≡ true
   pub rest : new.goes ≡ true → KeepsRest old.one.own new.one.own
-  pub left : old.goes ≡ false → new.one.tried ≡ old.one.tried
+  pub left : old.goes ≡ false → new.one.tried.items ≡ old.one.tried.items
 
 -- and it came to the phase's end, which has no race in the faulty machine; if not, the steps that it took itself are those of some moment of its slot
 pub record ComesThroughPhase (design : FlatDesign) (plan : TestPlan) (from until : ℕ) (runner : Runner) (before behind : MomentKept) (runner_new : Runner) (before_new behind_new : MomentKept)

@@ -23,6 +23,8 @@ use Rattle.lockstep_block.specs.window_places.Passing.{events_before}
 use Rattle.slot_laws.specs.Slots.{GoesFurther, GoesOverBlock, SlotGoesOn, further}
 use Rattle.slot_laws.proofs.Further.{further-behind, further-none}
 use Rattle.slot_laws.proofs.Rooms.{beside, goes-over, shows-whole}
+use Rattle.good_runs.specs.declared.tried.TriedStep.{TriedStep}
+use Rattle.run_numbers.specs.declared.numbers.RunApart.{RunApart}
 
 -- a block further on
 pub further-block : (place : Place) (block rest : List Event) → place.left ≡ block ++ rest → further (length block) place ≡ behind_events block rest place
@@ -58,6 +60,7 @@ module _ (design : FlatDesign) (plan : TestPlan) (fault : StuckAt) (slot : First
     block = ahead.block;
     rest = ahead.rest;
     counts_are = counted;
+    within = record { before_is = on.room.from_is; through_is = on.room.until_is };
     beside = beside design plan from until number place runner before behind later on.room ahead;
     goes = on.goes;
     early = on.early;

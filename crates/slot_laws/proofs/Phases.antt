@@ -11,6 +11,8 @@ use Rattle.lockstep_block.specs.moment_laws.Shown.{MomentKept}
 use Rattle.race_notes.specs.Notes.{NotesKept}
 use Rattle.slot_laws.specs.Slots.{HasComeOn, PhaseEndsAt, SlotGoesOn, further}
 use Rattle.slot_laws.proofs.Further.{further-more, further-none}
+use Rattle.good_runs.specs.declared.tried.TriedStep.{TriedStep}
+use Rattle.run_numbers.specs.declared.numbers.RunApart.{RunApart}
 
 module _ (design : FlatDesign) (plan : TestPlan) (fault : StuckAt) (slot : FirstSlot) (begins : State) (from until number : ℕ) (place : Place) where
   -- nowhere yet

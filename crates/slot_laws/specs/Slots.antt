@@ -24,6 +24,8 @@ use Rattle.window_blocks.specs.Kept.{BlocksKept}
 use Rattle.lockstep_block.specs.window_wakes.Wakes.{WakesKept}
 use Rattle.lockstep_block.specs.Blocks.{FaultGoes}
 use Rattle.lockstep_block.specs.Rooms.{IsRoomAt}
+use Rattle.good_runs.specs.declared.tried.TriedStep.{TriedStep}
+use Rattle.run_numbers.specs.declared.numbers.RunApart.{RunApart}
 
 -- a window of the good machine's trace, its blocks and its wakes are of the same slots
 pub record AreOfOneWindow (window : WindowKept) (blocks : BlocksKept) (wakes : WakesKept) : Type 0 where

@@ -247,7 +247,7 @@ returns-clause-on g c =
     let blocks = c.args.view.now.blocks.now in
     let waits = c.faults.invariant.waits in
     let laws : PhaseLaws =
-    phase-laws c.places_are_told.ensures c.phases_follow.ensures.phases c.blocks_are_told.ensures.end c.blocks_are_told.ensures.join c.steps_go_on.ensures c.limits_tell.ensures in
+    phase-laws c.places_are_told.ensures c.phases_follow.ensures.phases c.blocks_are_told.ensures.end c.blocks_are_told.ensures.join c.steps_go_on.ensures c.limits_tell.ensures c.own_steps_go_on.ensures in
     let next = c.pass_block-2.new.self in
     let runner = c.follow_block.new.runner in
     let taken : BlockIsTaken design plan room.runner room.before room.behind c.pass_block.new.self c.faults.room.runner runner next =
@@ -280,7 +280,7 @@ returns-clause-more g c =
     let blocks = c.args.view.now.blocks.now in
     let waits = c.faults.invariant.waits in
     let laws : PhaseLaws =
-    phase-laws c.places_are_told.ensures c.phases_follow.ensures.phases c.blocks_are_told.ensures.end c.blocks_are_told.ensures.join c.steps_go_on.ensures c.limits_tell.ensures in
+    phase-laws c.places_are_told.ensures c.phases_follow.ensures.phases c.blocks_are_told.ensures.end c.blocks_are_told.ensures.join c.steps_go_on.ensures c.limits_tell.ensures c.own_steps_go_on.ensures in
     let next = c.pass_block-2.new.self in
     let runner = c.follow_block.new.runner in
     let taken : BlockIsTaken design plan room.runner room.before room.behind c.pass_block.new.self c.faults.room.runner runner next =
