@@ -1,10 +1,11 @@
 -- The next step of a process in a block, beside the good machine's run of its number (steps and runs by IEEE 1364-2001, clause 9).
-use Rattle.std.specs.Prelude.{◌≡◌, ℕ, ◌+◌, ◌<◌, Bool, true, false, List, [], ◌∷◌, ◌++◌, length, slice_get, Option, Some, None}
+use Rattle.std.specs.Prelude.{◌≡◌, ℕ, ◌+◌, ◌<◌, ◌^◌, Bool, true, false, List, [], ◌∷◌, ◌++◌, length, set, slice_get, Option, Some, None}
 use Rattle.vf_base.specs.Base.{process_number}
 use Rattle.vf_base.specs.Counts.{raised}
+use Rattle.vf_base.specs.declared.ids.ProcId.{ProcId}
 use Rattle.v_design.specs.Designs.{Machine}
 use Rattle.v_design.specs.OwnSteps.{ProcessRun}
-use Rattle.v_design.specs.States.{State, next_activity, step_of}
+use Rattle.v_design.specs.States.{State, is_ready, next_activity, process_at, step_of}
 use Rattle.process_code.specs.Points.{activity_of}
 use Rattle.process_code.specs.RunEnds.{act_by, act_of}
 use Rattle.process_code.specs.StatesOf.{IsStateOf}
@@ -18,17 +19,13 @@ use Rattle.copy_overlay.specs.Statuses.{AllCount}
 use Rattle.good_runs.specs.declared.tried.TriedStep.{TriedStep}
 use Rattle.known_steps.specs.Beside.{FollowsSoFar, IsInRun, TellsRunHere, run_behind}
 use Rattle.known_steps.specs.declared.known.KnownStep.{KnownStep}
-use Rattle.block_runner.specs.Beside.{TellsBeside}
+use Rattle.run_numbers.specs.Numbers.{AreNumbers}
+use Rattle.block_runner.specs.Beside.{TellsBeside, row_at, taken_of}
 use Rattle.block_runner.specs.declared.goods.GoodPhase.{GoodPhase}
 use Rattle.block_runner.specs.declared.rows.ProcessBeside.{ProcessBeside}
 use Rattle.block_runner.specs.declared.rows.RunBeside.{RunBeside}
 
 -- Where a process stands
-
--- how many steps of the run with the next step were taken
-abbrev pub taken_of : Option RunBeside → ℕ
-taken_of None = 0
-taken_of (Some going) = going.taken
 
 -- a run as far as it went is kept so: it has no step yet, or it goes as the good machine's, or all its steps count as own
 abbrev pub GoesSo : Option ProcessRun → Option RunBeside → ProcessRun → Type 0
@@ -76,6 +73,11 @@ pub record Follows (machine : Machine) (state : State) (process : ℕ) (good : O
   pub stands : (code : Code) → IsCodeAt machine.design process code → IsStateOf code next
   pub follows : FollowsSoFar good (run_behind machine state process run)
 
+-- a step is known that a process takes next
+abbrev pub IsKnownHere : Machine → State → ℕ → KnownStep → Type 0
+IsKnownHere machine state process known =
+    IsKnownStep machine state process known.line known.act known.next.now × ((code : Code) → IsCodeAt machine.design process code → IsStateOf code known.next.now)
+
 -- or with it all steps of the run count as own
 abbrev pub TellsNext : Machine → State → ℕ → Option ProcessRun → ProcessRun → Option KnownStep → Type 0
 TellsNext machine state process good run None = AllCount good (run_behind machine state process run)
@@ -122,3 +124,28 @@ row_behind row follows false = record { ended = row.ended + 1; going = None }
 abbrev pub ended_behind : {A : Type 0} → List A → A → Bool → List A
 ended_behind ended process true = ended
 ended_behind ended process false = ended ++ process ∷ []
+
+-- A step beside
+
+-- a process may take a step so: it is at some run, whose number is that of a run that is looked up
+pub record MayStepBeside (machine : Machine) (state : State) (process : ℕ) (kept : GoodPhase) (row : ProcessBeside) : Type 0 where
+  pub runs : ℕ → List ProcessRun
+  pub numbers : ℕ → ℕ
+  pub run : ProcessRun
+  pub tells : TellsBeside machine state runs numbers kept
+  pub few : numbers process + row.ended < 2 ^ 32
+  pub is : IsAtRun machine state process (slice_get (runs process) (numbers process + row.ended)) row.going run
+
+-- it takes a step, from a state of the machine to another: as the good machine's, or itself; and what is kept of it and of the ends of runs is told
+pub record StepsBeside (machine : Machine) (state behind : State) (process : ProcId) (kept : GoodPhase) (rows_old rows_new : List ProcessBeside) (ended_old ended_new : List ProcId)
+    (tried_old tried_new : List TriedStep) (ticks_old ticks_new : ℕ) : Type 0 where
+  pub follows : Bool
+  pub number : ℕ
+  pub number_is : (numbers : ℕ → ℕ) → AreNumbers numbers kept.numbers → number ≡ numbers (process_number process) + (row_at rows_old (process_number process)).ended
+  pub rows : rows_new ≡ set rows_old (process_number process) (row_behind (row_at rows_old (process_number process)) follows (is_ready (process_at behind (process_number process)).activity))
+  pub ended : ended_new ≡ ended_behind ended_old process (is_ready (process_at behind (process_number process)).activity)
+  pub tries : TriesSo machine state (process_number process) kept.phase number (taken_of (row_at rows_old (process_number process)).going) tried_old tried_new ticks_old ticks_new follows
+  pub took : (runs : ℕ → List ProcessRun) (numbers : ℕ → ℕ) (run : ProcessRun) → TellsBeside machine state runs numbers kept →
+      IsAtRun machine state (process_number process) (slice_get (runs (process_number process)) (numbers (process_number process) + (row_at rows_old (process_number process)).ended))
+      (row_at rows_old (process_number process)).going run →
+      TookBeside machine state (process_number process) (slice_get (runs (process_number process)) (numbers (process_number process) + (row_at rows_old (process_number process)).ended)) run follows
