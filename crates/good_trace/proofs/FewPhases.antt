@@ -38,12 +38,12 @@ right : (P : FirstSlot → Type 0) (xs ys : List FirstSlot) → AllHold P (xs ++
 right P [] ys h = h
 right P (x ∷ xs) ys h = right P xs ys h.1
 
-at-place : (P : FirstSlot → Type 0) (xs : List FirstSlot) → AllHold P xs → (number : ℕ) (slot : FirstSlot) → slice_get xs number ≡ Some slot → P slot
+pub at-place : (P : FirstSlot → Type 0) (xs : List FirstSlot) → AllHold P xs → (number : ℕ) (slot : FirstSlot) → slice_get xs number ≡ Some slot → P slot
 at-place P [] h number slot e = cc
 at-place P (x ∷ xs) h zero slot e = subst P (ap (found_or x) e) h.0
 at-place P (x ∷ xs) h (suc number) slot e = at-place P xs h.1 number slot e
 
-through-stop : (P : FirstSlot → Type 0) (machine : Machine) (slots : List FirstSlot) → AllHold P slots → AllHold P (slots_through_stop machine slots)
+pub through-stop : (P : FirstSlot → Type 0) (machine : Machine) (slots : List FirstSlot) → AllHold P slots → AllHold P (slots_through_stop machine slots)
 through-stop P machine [] h = tt
 through-stop P machine (slot ∷ slots) h = (h.0, go (slot_outcome machine slot) (through-stop P machine slots h.1))
   where

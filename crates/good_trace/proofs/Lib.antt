@@ -13,3 +13,4 @@ mod Unwritten
 mod ClosedWindows
 mod FewPhases
 mod FewRuns
+mod Beside

@@ -37,7 +37,7 @@ reads-alike alike design process one other first second =
     let is : process_of one.process.now ≡ process_of other.process.now = cc in
     alike one other (record { same = is; first = first.code_of; second = second.code_of })
 
-both : (a b : Bool) → (a && b) ≡ true → b ≡ true
+pub both : (a b : Bool) → (a && b) ≡ true → b ≡ true
 both true b e = e
 both false b e = cc
 

@@ -9,3 +9,4 @@ pub mod Traces
 pub mod RunsKept
 pub mod Starting
 pub mod SlotsTold
+pub mod BesideSlots

@@ -13,13 +13,17 @@ ghost use Rattle.trace_window.specs.Acted.{evaluated_at, stepped_at};
 ghost use Rattle.trace_window.specs.Touched.{touched_at, written_at, IsFirstFrom};
 ghost use Rattle.trace_window.specs.Writes.{written_of};
 ghost use Rattle.v_design.specs.Grades.{Phase};
+ghost use Rattle.v_design.specs.OwnSteps.{process_runs};
 ghost use Rattle.run_ends.specs.RunEnds.{ender_told};
 ghost use Rattle.between_slots.specs.Between.{state_through, activity_through, window_phases};
 ghost use Rattle.between_slots.specs.Updates.{updates_through, Rests, LastIsFew, RestingStatesAreTold};
-ghost use Rattle.copy_laws.specs.Windows.{IsWindow, good_slots, window_steps};
+ghost use Rattle.copy_laws.specs.Windows.{IsWindow, good_slots, window_slots, window_steps};
+ghost use Rattle.window_runs.specs.OfPhase.{TellsRuns};
+ghost use Rattle.good_trace.specs.BesideSlots.{TellsSlots};
 ghost use Rattle.good_trace.specs.RunsKept.{Stands, TellsRun};
 ghost use Rattle.good_trace.specs.SlotsTold.{AreWritesOf, IsUnwritten, slot_run_ends};
 
+use crate::beside::WindowSlots;
 use crate::between::{BetweenSlots, copy_updates};
 use crate::ending::GoodEnd;
 use crate::events::{Events, changes_between};
@@ -31,7 +35,7 @@ use std::marker::{Model, PhantomData};
 use trace_window::Change;
 use v_design::{Due, World};
 use vf_base::{NoMemory, NodeId, ObjectId, ProcId};
-use window_runs::{RunIndex, runs_between, standing_after};
+use window_runs::{PhaseRuns, RunIndex, runs_between, standing_after};
 
 /// Slots of the good first run of the world `N` in a row, which contracts see as how many slots of the run stand before the window and before its end, and how it ends.
 #[derive(Drop)]
@@ -164,6 +168,34 @@ impl<N: World> TraceWindow<N> {
     {
         codes_are_one();
         self.index.run(&self.slots.runs, process, phase, number)
+    }
+
+    /// The runs of a phase.
+    pub fn phase_runs(&self, phase: u32) -> PhaseRuns<'_>
+        ensures { (before : ℕ) (one : Phase) → phase ≡ before + 1 → slice_get (window_phases N.design N.plan self.now.before self.now.through) before ≡ Some one →
+            TellsRuns N.design one.begins.time (λ process. process_runs (good_machine N.design) process one) result }
+    {
+        codes_are_one();
+        PhaseRuns {
+            index: &self.index,
+            runs: &self.slots.runs,
+            phase,
+        }
+    }
+
+    /// Its slots, for a machine that runs beside them.
+    pub fn slots_told(&self) -> WindowSlots<'_>
+        ensures { TellsSlots N.design (window_slots N.design N.plan self.now.before self.now.through) result }
+    {
+        codes_are_one();
+        // The numbers of the phases fit.
+        let _phases = self.phases;
+        WindowSlots {
+            times: &self.slots.times,
+            beginnings: &self.slots.beginnings,
+            index: &self.index,
+            runs: &self.slots.runs,
+        }
     }
 
     /// Where a process stands before the window's first slot begins.

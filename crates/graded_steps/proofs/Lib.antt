@@ -1,3 +1,4 @@
 mod Parted
 mod Standing
 mod Ending
+mod Between

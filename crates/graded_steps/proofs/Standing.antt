@@ -1,5 +1,5 @@
 -- A first run slot by slot, and the process steps behind it (steps by IEEE 1364-2001, clause 9; slots by clause 5).
-use Rattle.std.proofs.Common.{◌≡◌, ◌≢◌, ℕ, ◌+◌, ◌<◌, ◌≤◌, List, [], ◌∷◌, Bool, true, false, refl, sym, ap, subst, ◌∙◌, arith, zero-add}
+use Rattle.std.proofs.Common.{◌≡◌, ◌≢◌, ℕ, ◌+◌, ◌<◌, ◌≤◌, List, [], ◌∷◌, ◌++◌, Bool, true, false, refl, sym, ap, subst, ◌∙◌, append_assoc, arith, zero-add}
 use Rattle.std.specs.Prelude.{Option, Some, None, nat_le}
 use Rattle.std.proofs.lemmas.Bool.{le-leb, leb-true, leb-false}
 use Rattle.vf_base.specs.Lists.{AllHold}
@@ -10,7 +10,7 @@ use Rattle.v_design.specs.Grades.{SlotOutcome, Fine, Race, Hyper, phases, slot_o
 use Rattle.v_design.specs.WellFormed.{KeepsRules}
 use Rattle.order_laws.specs.FirstRuns.{Follow, Rise, FirstRunsGoOn}
 use Rattle.machine_laws.specs.SlotLoop.{slot_from}
-use Rattle.copy_laws.specs.Windows.{state_by}
+use Rattle.copy_laws.specs.Windows.{comes_by, state_by}
 use Rattle.grade_laws.specs.Ahead.{StopsAfter}
 use Rattle.beside_laws.specs.Stands.{IsAfter, IsSince}
 use Rattle.machine.specs.Ticks.{process_steps}
@@ -29,27 +29,52 @@ after-since : (now : Option ℕ) (time later : ℕ) → IsAfter now time → tim
 after-since None time later a h = tt
 after-since (Some now) time later a h = omega (arith, a, h)
 
+-- Slots behind
+
+-- what comes by a time comes by a later one
+by-later : (now : Option ℕ) (time slot : ℕ) → IsSince now time → comes_by now slot ≡ true → comes_by (Some time) slot ≡ true
+by-later None time slot s b = cc
+by-later (Some now) time slot s b = let low : slot ≤ now = leb-true slot now b in le-leb slot time (omega (arith, low, s))
+
+all-later : (now : Option ℕ) (time : ℕ) (slots : List FirstSlot) → IsSince now time → AllHold (λ (slot : FirstSlot). comes_by now slot.begins.time ≡ true) slots →
+    AllHold (λ (slot : FirstSlot). comes_by (Some time) slot.begins.time ≡ true) slots
+all-later now time [] s all = tt
+all-later now time (slot ∷ slots) s all = (by-later now time slot.begins.time s all.0, all-later now time slots s all.1)
+
+-- one slot more is behind
+all-push : (now : Option ℕ) (time : ℕ) (slots : List FirstSlot) (last : FirstSlot) → IsSince now time → AllHold (λ (slot : FirstSlot). comes_by now slot.begins.time ≡ true) slots →
+    last.begins.time ≡ time → AllHold (λ (slot : FirstSlot). comes_by (Some time) slot.begins.time ≡ true) (slots ++ last ∷ [])
+all-push now time [] last s all same = (le-leb last.begins.time time (omega (arith, same)), tt)
+all-push now time (slot ∷ slots) last s all same = (by-later now time slot.begins.time s all.0, all-push now time slots last s all.1 same)
+
 -- Slots that are ahead
 
 -- the slot that is next, and those after it
-record Next (machine : Machine) (end : ℕ) (now : Option ℕ) (begins : State) : Type 0 where
-  rest : List FirstSlot
-  follow : Follow machine end (next_slot machine end (slot_from machine begins)) rest
-  rise : Rise rest
-  after : AllHold (λ (slot : FirstSlot). begins.time < slot.begins.time) rest
-  since : IsAfter now begins.time
-  total : steps_up_to machine now + steps_through machine (slot_from machine begins ∷ rest) ≡ steps_by machine end
-  left : (time : ℕ) → IsSince now time → steps_after time machine (first_run machine end) ≡ steps_after time machine (slot_from machine begins ∷ rest)
+pub record Next (machine : Machine) (end : ℕ) (now : Option ℕ) (begins : State) : Type 0 where
+  pub rest : List FirstSlot
+  pub behind : List FirstSlot
+  pub parts : first_run machine end ≡ behind ++ slot_from machine begins ∷ rest
+  pub by_now : AllHold (λ (slot : FirstSlot). comes_by now slot.begins.time ≡ true) behind
+  pub follow : Follow machine end (next_slot machine end (slot_from machine begins)) rest
+  pub rise : Rise rest
+  pub after : AllHold (λ (slot : FirstSlot). begins.time < slot.begins.time) rest
+  pub since : IsAfter now begins.time
+  pub total : steps_up_to machine now + steps_through machine (slot_from machine begins ∷ rest) ≡ steps_by machine end
+  pub left : (time : ℕ) → IsSince now time → steps_after time machine (first_run machine end) ≡ steps_after time machine (slot_from machine begins ∷ rest)
 
-next-slot : (machine : Machine) (end : ℕ) (now : Option ℕ) (begins : State) → SlotsAhead machine end now (Some begins) → Next machine end now begins
-next-slot machine end now begins a = go a.slots a.follow a.rise a.later a.total a.left
+pub next-slot : (machine : Machine) (end : ℕ) (now : Option ℕ) (begins : State) → SlotsAhead machine end now (Some begins) → Next machine end now begins
+next-slot machine end now begins a = go a.slots a.follow a.rise a.later a.total a.left a.parts
   where
     go : (slots : List FirstSlot) → Follow machine end (Some begins) slots → Rise slots → AllHold (λ (slot : FirstSlot). IsAfter now slot.begins.time) slots →
         steps_up_to machine now + steps_through machine slots ≡ steps_by machine end →
-        ((time : ℕ) → IsSince now time → steps_after time machine (first_run machine end) ≡ steps_after time machine slots) → Next machine end now begins
-    go [] f r l t k = absurd f
-    go (slot ∷ rest) f r l t k = record {
+        ((time : ℕ) → IsSince now time → steps_after time machine (first_run machine end) ≡ steps_after time machine slots) → first_run machine end ≡ a.behind ++ slots →
+        Next machine end now begins
+    go [] f r l t k p = absurd f
+    go (slot ∷ rest) f r l t k p = record {
       rest = rest;
+      behind = a.behind;
+      parts = p ∙ ap (λ (x : FirstSlot). a.behind ++ x ∷ rest) f.0;
+      by_now = a.by_now;
       follow = subst (λ (x : FirstSlot). Follow machine end (next_slot machine end x) rest) f.0 f.1;
       rise = r.1;
       after = subst (λ (x : FirstSlot). AllHold (λ (y : FirstSlot). x.begins.time < y.begins.time) rest) f.0 r.0;
@@ -79,6 +104,9 @@ ahead-begins law machine end rules = record {
   later = all-any (first_run machine end);
   total = zero-add (steps_by machine end);
   left = λ time h. refl;
+  behind = [];
+  parts = refl;
+  by_now = tt;
 }
 
 -- A slot
@@ -96,7 +124,17 @@ ahead-fine law machine end now begins rules a early fine =
     total-ahead law machine end begins.time n.rest rules early n.after (left begins.time (omega arith)) in
     let before : steps_up_to machine now + steps_through machine (slot ∷ n.rest) ≡ steps_by machine end = n.total in
     let first : steps_through machine (slot ∷ n.rest) ≡ process_steps slot + steps_through machine n.rest = steps-fine machine slot n.rest fine in
-    (record { slots = n.rest; follow = n.follow; rise = n.rise; later = n.after; total = total; left = left }, omega (arith, total, before, first))
+    (record {
+      slots = n.rest;
+      follow = n.follow;
+      rise = n.rise;
+      later = n.after;
+      total = total;
+      left = left;
+      behind = n.behind ++ slot ∷ [];
+      parts = n.parts ∙ sym (append_assoc n.behind (slot ∷ []) n.rest);
+      by_now = all-push now begins.time n.behind slot (after-since now begins.time begins.time n.since (omega arith)) n.by_now refl;
+    }, omega (arith, total, before, first))
 
 ahead-stops : (machine : Machine) (end : ℕ) (now : Option ℕ) (begins : State) → SlotsAhead machine end now (Some begins) → slot_outcome machine (slot_from machine begins) ≢ Fine →
     steps_up_to machine now + process_steps (slot_from machine begins) ≡ steps_by machine end
@@ -106,7 +144,7 @@ ahead-stops machine end now begins a other =
 
 -- Times that pass
 
-later-all : (machine : Machine) (end time : ℕ) (next : Option State) (slots : List FirstSlot) → Follow machine end next slots → Rise slots →
+pub later-all : (machine : Machine) (end time : ℕ) (next : Option State) (slots : List FirstSlot) → Follow machine end next slots → Rise slots →
     ((begins : State) → next ≡ Some begins → time < begins.time) → AllHold (λ (slot : FirstSlot). time < slot.begins.time) slots
 later-all machine end time next [] f r h = tt
 later-all machine end time None (slot ∷ slots) f r h = absurd f
@@ -120,7 +158,17 @@ ahead-passes law machine end now next time rules a since h past =
     let later : AllHold (λ (slot : FirstSlot). time < slot.begins.time) a.slots = later-all machine end time next a.slots a.follow a.rise past in
     let total : steps_by machine time + steps_through machine a.slots ≡ steps_by machine end = total-ahead law machine end time a.slots rules h later (a.left time since) in
     let before : steps_up_to machine now + steps_through machine a.slots ≡ steps_by machine end = a.total in (
-      record { slots = a.slots; follow = a.follow; rise = a.rise; later = later; total = total; left = λ other k. a.left other (since-more now time other since k) },
+      record {
+        slots = a.slots;
+        follow = a.follow;
+        rise = a.rise;
+        later = later;
+        total = total;
+        left = λ other k. a.left other (since-more now time other since k);
+        behind = a.behind;
+        parts = a.parts;
+        by_now = all-later now time a.behind since a.by_now;
+      },
       omega (arith, total, before),
     )
 
@@ -166,6 +214,9 @@ record Left (machine : Machine) (end time : ℕ) (slots : List FirstSlot) (to : 
   rise : Rise ahead
   later : AllHold (λ (slot : FirstSlot). time < slot.begins.time) ahead
   left : (later : ℕ) → time ≤ later → steps_after later machine slots ≡ steps_after later machine ahead
+  behind : List FirstSlot
+  parts : slots ≡ behind ++ ahead
+  by_now : AllHold (λ (slot : FirstSlot). comes_by (Some time) slot.begins.time ≡ true) behind
 
 left-more : (machine : Machine) (end time : ℕ) (slot : FirstSlot) (slots : List FirstSlot) (to : State) → slot.begins.time ≤ time → slot_outcome machine slot ≡ Fine →
     Left machine end time slots to → Left machine end time (slot ∷ slots) to
@@ -174,12 +225,15 @@ left-more machine end time slot slots to low fine l = record {
   follow = l.follow;
   rise = l.rise;
   later = l.later;
+  behind = slot ∷ l.behind;
+  parts = ap (λ (rest : List FirstSlot). slot ∷ rest) l.parts;
+  by_now = (le-leb slot.begins.time time low, l.by_now);
   left = λ later h. after-fine later machine slot slots (omega (arith, low, h)) fine ∙ l.left later h;
 }
 
 left-from : (machine : Machine) (end time : ℕ) (slots : List FirstSlot) (from : State) → Follow machine end (next_slot_at end from (turn_of from)) slots → Rise slots →
     StopsAfter time (first_stop machine slots) → Left machine end time slots (state_by machine from slots time)
-left-from machine end time [] from f r s = record { ahead = []; follow = f; rise = tt; later = tt; left = λ later h. refl }
+left-from machine end time [] from f r s = record { ahead = []; follow = f; rise = tt; later = tt; left = λ later h. refl; behind = []; parts = refl; by_now = tt }
 left-from machine end time (slot ∷ slots) from f r s =
     go (next_slot_at end from (turn_of from)) f
     (λ g. by-time (nat_le slot.begins.time time) refl (λ low. let fine = fine-before machine time slot slots low s in
@@ -197,6 +251,9 @@ left-from machine end time (slot ∷ slots) from f r s =
           rise = r;
           later = (late, all-after time slot.begins.time slots (omega (arith, late)) r.0);
           left = λ later h. refl;
+          behind = [];
+          parts = refl;
+          by_now = tt;
         }
 
     go : (next : Option State) → Follow machine end next (slot ∷ slots) →
@@ -235,6 +292,9 @@ runs_take_steps law = record {
         later = l.later;
         total = total-ahead law machine end time l.ahead rules h l.later (l.left time (omega arith));
         left = l.left;
+        behind = l.behind;
+        parts = l.parts;
+        by_now = l.by_now;
       };
   fine = ahead-fine law;
   stops = ahead-stops;

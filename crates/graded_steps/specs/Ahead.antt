@@ -1,5 +1,5 @@
 -- The slots that are ahead of a first run, and the process steps of those behind it (steps by IEEE 1364-2001, clause 9; slots by clause 5).
-use Rattle.std.specs.Prelude.{◌≡◌, ◌≢◌, ℕ, ◌+◌, ◌<◌, ◌≤◌, List, Option, Some, None, sum_by, nat_lt, if◌then◌else◌}
+use Rattle.std.specs.Prelude.{◌≡◌, ◌≢◌, ℕ, ◌+◌, ◌<◌, ◌≤◌, true, List, [], ◌∷◌, ◌++◌, Option, Some, None, sum_by, nat_lt, if◌then◌else◌}
 use Rattle.vf_base.specs.Lists.{AllHold}
 use Rattle.v_design.specs.Designs.{Machine}
 use Rattle.v_design.specs.States.{State, start, turn_of}
@@ -9,7 +9,7 @@ use Rattle.v_design.specs.OwnSteps.{slots_through_stop}
 use Rattle.v_design.specs.WellFormed.{KeepsRules}
 use Rattle.order_laws.specs.FirstRuns.{Follow, Rise}
 use Rattle.machine_laws.specs.SlotLoop.{slot_from}
-use Rattle.copy_laws.specs.Windows.{state_at}
+use Rattle.copy_laws.specs.Windows.{comes_by, state_at}
 use Rattle.grade_laws.specs.Ahead.{StopsAfter}
 use Rattle.beside_laws.specs.Stands.{IsAfter, IsSince}
 use Rattle.machine.specs.Ticks.{process_steps}
@@ -33,6 +33,10 @@ pub record SlotsAhead (machine : Machine) (end : ℕ) (now : Option ℕ) (next :
   pub later : AllHold (λ (slot : FirstSlot). IsAfter now slot.begins.time) slots
   pub total : steps_up_to machine now + steps_through machine slots ≡ steps_by machine end
   pub left : (time : ℕ) → IsSince now time → steps_after time machine (first_run machine end) ≡ steps_after time machine slots
+  -- behind it are the other slots, all up to that time
+  pub behind : List FirstSlot
+  pub parts : first_run machine end ≡ behind ++ slots
+  pub by_now : AllHold (λ (slot : FirstSlot). comes_by now slot.begins.time ≡ true) behind
 
 -- The laws
 

@@ -2,10 +2,12 @@
 //!
 //! Between two windows a fault stands behind some slots of its faulty machine's first run, or its grading ended. `runs_take_steps` says which slots are ahead of a run that
 //! stands at a time, and how many steps lie between two such places; `gradings_take_steps` that a grading which goes on has taken no more steps than it takes by a later
-//! time, nor than it takes in all; `counters_rise` adds up what counters rise by. Each function here does nothing when it runs; its contract is the law.
+//! time, nor than it takes in all; `counters_rise` adds up what counters rise by; `slots_lie_between` which slots of the run lie between two times. Each function here does nothing when it
+//! runs; its contract is the law.
 #![tactic(auto)]
 
 ghost use Rattle.graded_steps.specs.Ahead.{RunsTakeSteps};
+ghost use Rattle.graded_steps.specs.Between.{SlotsLieBetween};
 ghost use Rattle.graded_steps.specs.Gradings.{GradingsTakeSteps};
 ghost use Rattle.graded_steps.specs.Rises.{CountersRise};
 
@@ -28,4 +30,9 @@ pub fn gradings_take_steps()
 /// Counters that rise by no more than two numbers are apart, or by no more than twice that, stretch by stretch and side by side.
 pub fn counters_rise()
     ensures { CountersRise }
+{}
+
+/// Between where a first run stands and the time of its next slot lies this slot alone, and up to an earlier time none.
+pub fn slots_lie_between()
+    ensures { SlotsLieBetween }
 {}

@@ -23,9 +23,12 @@ use Rattle.slot_record.specs.declared.record.SlotRecord.{SlotRecord}
 use Rattle.slot_record.specs.SlotRecords.{RecordsSlot, AddsStep, one_more, state_in}
 use Rattle.net_state.specs.declared.state.NetState.{NetState}
 use Rattle.net_state.specs.States.{machine_in, nodes_in, values_in}
+use Rattle.process_code.specs.declared.state.ProcState.{ProcState}
+use Rattle.process_code.specs.declared.state.StepAct.{StepAct}
 use Rattle.process_table.specs.declared.table.ProcessTable.{ProcessTable}
 use Rattle.process_table.specs.declared.deed.Stepped.{Stepped}
 use Rattle.process_table.specs.Deeds.{IsStepOf}
+use Rattle.process_table.specs.Known.{IsKnownStep}
 use Rattle.process_table.specs.Tables.{TableState, IsTableOf, process_in}
 use Rattle.process_table.specs.Arranged.{IsKept, table_of}
 use Rattle.machine_laws.specs.StepTells.{lane_gone_on, lane-after, lane-told}
@@ -178,6 +181,18 @@ stepped-both machine state nets old new process stepped both ready steps = recor
   machine_is = both.machine_is;
   nets_are = both.nets_are;
   step = steps machine state both.table_is (sym both.nets_are.values);
+}
+
+-- the same where the step was known
+pub followed-both : (machine : Machine) (state : State) (nets : NetState) (old new : ProcessTable) (process line : ℕ) (act : StepAct) (next : ProcState) (stepped : Stepped) →
+    AreBothOf machine state nets old → is_ready (process_in (table_of old) process).activity ≡ true → IsKnownStep machine state process line act next →
+    ((machine : Machine) (state : State) → IsTableOf machine state (table_of old) → IsKnownStep machine state process line act next → IsStepOf machine state process stepped (table_of new)) →
+    IsStepped machine state process stepped nets new
+followed-both machine state nets old new process line act next stepped both ready known steps = record {
+  ready = subst (λ (ps : List ProcessState). is_ready (found_or idle_process (slice_get ps process)).activity ≡ true) both.table_is.processes ready;
+  machine_is = both.machine_is;
+  nets_are = both.nets_are;
+  step = steps machine state both.table_is known;
 }
 
 -- the table has as many processes as before

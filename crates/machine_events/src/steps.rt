@@ -3,15 +3,20 @@
 ghost use Rattle.std.specs.Prelude.{◌≡◌, ◌<◌, ◌≤◌, ◌^◌, Some, None, true, length, IfOk, IfSome, OnOk};
 ghost use Rattle.vf_base.specs.Base.{object_number, process_number};
 ghost use Rattle.vf_base.specs.Counts.{raised};
-ghost use Rattle.v_design.specs.States.{Step, is_ready};
+ghost use Rattle.v_design.specs.Designs.{Machine};
+ghost use Rattle.v_design.specs.States.{State, Step, is_ready};
 ghost use Rattle.v_design.specs.Accesses.{waiting_entries};
 ghost use Rattle.net_state.specs.States.{values_in, machine_in};
+ghost use Rattle.process_code.specs.StatesOf.{IsStateOf};
+ghost use Rattle.process_code.specs.declared.code.Code.{Code};
+ghost use Rattle.run_ends.specs.RunEnds.{IsCodeAt};
 ghost use Rattle.process_table.specs.Arranged.{IsKept, table_of};
+ghost use Rattle.process_table.specs.Known.{IsKnownStep};
 ghost use Rattle.process_table.specs.Tables.{process_in};
 ghost use Rattle.slot_record.specs.SlotRecords.{one_more};
 ghost use Rattle.machine_events.specs.Alone.{AreOfOne, HappensTo};
-ghost use Rattle.machine_events.specs.Parts.{FitsDesign, IsInSlot, Leads};
-ghost use Rattle.machine_events.specs.StepDeeds.{TellsQuiet, CarriesOut, IsMidStep, FinishesStep};
+ghost use Rattle.machine_events.specs.Parts.{FitsDesign, AreBothOf, IsInSlot, Leads};
+ghost use Rattle.machine_events.specs.StepDeeds.{TellsQuiet, TellsStepTaken, CarriesOut, IsMidStep, FinishesStep};
 ghost use Rattle.machine_events.specs.There.{TouchesBelow, StepIsThere};
 
 use crate::notes::note_step;
@@ -20,6 +25,7 @@ use crate::write::write_update;
 use causal_monitor::Noted;
 use four_value::Vec4;
 use net_state::NetState;
+use process_code::{ProcState, StepAct};
 use process_table::{Act, ProcessTable, Stepped};
 use slot_record::SlotRecord;
 use std::sync::ledger::Ledger;
@@ -160,7 +166,14 @@ pub fn finish_step(
     Ok(())
 }
 
-/// A ready process takes a step, of which no record is kept: `told` tells it, and `steps` ticks once. It answers what the step did.
+/// A step of which no record is kept: what it did, and where its process stands behind it.
+#[derive(Drop)]
+pub struct StepAlone {
+    pub stepped: Stepped,
+    pub state: ProcState,
+}
+
+/// A ready process takes a step, of which no record is kept: `told` tells it, and `steps` ticks once. It answers what the step did, and where the process stands behind it.
 ///
 /// # Errors
 ///
@@ -171,15 +184,45 @@ pub fn step_alone<L: Ledger>(
     told: &mut Told,
     process: ProcId,
     steps: &mut Steps<L>,
-) -> Result<Stepped, NoMemory>
+) -> Result<StepAlone, NoMemory>
     requires one { AreOfOne nets.old table.old }
     requires ready { is_ready (process_in (table_of table.old) (process_number process)).activity ≡ true }
     requires time { (table_of table.old).time ≤ 2 ^ 63 }
     requires there { StepIsThere (process_number process) nets.old table.old }
-    ensures happens { IfOk result (λ stepped. HappensTo (Step (process_number process)) stepped.line nets.old nets.new table.old table.new told.new) }
+    ensures happens { IfOk result (λ step. HappensTo (Step (process_number process)) step.stepped.line nets.old nets.new table.old table.new told.new) }
+    ensures step { IfOk result (λ step. (machine : Machine) (state : State) → AreBothOf machine state nets.old table.old →
+        TellsStepTaken machine state (process_number process) step.stepped step.state) }
     ensures ticks { OnOk result (steps.new ≡ raised steps.old) }
 {
     let stepped = table.step(process, &*nets, steps)?;
+    let state = table.copy_state(process)?;
+    carry_out(nets, table, told, process, &stepped)?;
+    Ok(StepAlone { stepped, state })
+}
+
+/// A ready process takes a step that is known, of which no record is kept: it does what the step does, and stands then at a state, which may be one of any code of the process; `told` tells it. Its code isn't run. It answers
+/// what the step did.
+///
+/// # Errors
+///
+/// Want of memory.
+pub fn follow_alone(
+    nets: &mut NetState,
+    table: &mut ProcessTable,
+    told: &mut Told,
+    process: ProcId,
+    line: u32,
+    act: StepAct,
+    next: &ProcState,
+) -> Result<Stepped, NoMemory>
+    requires one { AreOfOne nets.old table.old }
+    requires ready { is_ready (process_in (table_of table.old) (process_number process)).activity ≡ true }
+    requires there { StepIsThere (process_number process) nets.old table.old }
+    requires stands { (code : Code) → IsCodeAt (table_of table.old).design (process_number process) code → IsStateOf code next.now }
+    requires known { (machine : Machine) (state : State) → AreBothOf machine state nets.old table.old → IsKnownStep machine state (process_number process) line act next.now }
+    ensures { IfOk result (λ stepped. HappensTo (Step (process_number process)) stepped.line nets.old nets.new table.old table.new told.new) }
+{
+    let stepped = table.follow(process, line, act, next)?;
     carry_out(nets, table, told, process, &stepped)?;
     Ok(stepped)
 }

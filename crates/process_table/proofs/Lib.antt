@@ -18,3 +18,5 @@ pub mod TurnedLaws
 pub mod CodesAt
 pub mod PutLaws
 pub mod Replaced
+pub mod Known
+pub mod Readings

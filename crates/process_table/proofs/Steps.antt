@@ -46,7 +46,7 @@ step-of machine state table p t =
 
 -- What a step says
 
-read-said : (now : ℕ) (action : Action) (next : Activity) → read_said (said_of now action next) ≡ read_of action
+pub read-said : (now : ℕ) (action : Action) (next : Activity) → read_said (said_of now action next) ≡ read_of action
 read-said now (ReadsObject object) next = refl
 read-said now (WritesObject update) next = refl
 read-said now (AppendsUpdate delay update) next = refl
@@ -56,7 +56,7 @@ read-said now TouchesNothing (Asleep time tasks) = refl
 read-said now TouchesNothing (Postponed tasks) = refl
 read-said now TouchesNothing Done = refl
 
-written-said : (now : ℕ) (action : Action) (next : Activity) → written_said (said_of now action next) ≡ write_of action
+pub written-said : (now : ℕ) (action : Action) (next : Activity) → written_said (said_of now action next) ≡ write_of action
 written-said now (ReadsObject object) next = refl
 written-said now (WritesObject update) next = refl
 written-said now (AppendsUpdate delay update) next = refl

@@ -1,5 +1,6 @@
 pub mod Tables
 pub mod Deeds
+pub mod Known
 pub mod Sets
 pub mod Waited
 pub mod WaitedLaws

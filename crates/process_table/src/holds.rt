@@ -169,3 +169,20 @@ pub fn hold_with(
     hold(queue, process, stage)?;
     Ok(())
 }
+
+/// The same with one update, if there is one.
+pub fn hold_one(
+    queue: &mut Queue,
+    process: ProcId,
+    stage: Stage,
+    update: Option<Due>,
+) -> Result<(), NoMemory>
+    requires number { process_number process < length queue.old }
+    requires free { (held_at queue.old (process_number process)).holding ≡ Holding.Free }
+    ensures { OnOk result (queue.new ≡ change_at queue.old (process_number process) (held_so (stage_holding stage) (option_to_list (option_map due_of update)))) }
+{
+    match update {
+        Some(due) => hold_with(queue, process, stage, &[due]),
+        None => hold_with(queue, process, stage, &[]),
+    }
+}

@@ -59,7 +59,7 @@ impl<'d> ProcessTable<'d> {
         ensures kept { OnOk result (IsKept self.new) }
     {
         codes_are_one();
-        put_state(&mut self.rows, process, state)?;
+        put_state(&mut self.rows, process, &state)?;
         let standing = standing_of(&self.rows, process);
         hold_with(&mut self.queue, process, standing.stage, updates)?;
         mark(&mut self.ready, process, standing.ready);

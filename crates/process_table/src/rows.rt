@@ -78,11 +78,11 @@ impl<'d> Row<'d> {
     }
 
     /// The process comes to stand at a state, in the memory of the row.
-    fn put_state(&mut self, state: ProcState) -> Result<(), NoMemory>
-        requires { IsStateOf self.old.code state }
-        ensures { OnOk result (RowChanges self.old self.new (doing (activity_of self.old.code state) (row_state self.old))) }
+    fn put_state(&mut self, state: &ProcState) -> Result<(), NoMemory>
+        requires { IsStateOf self.old.code state.now }
+        ensures { OnOk result (RowChanges self.old self.new (doing (activity_of self.old.code state.now) (row_state self.old))) }
     {
-        self.state.copy_from(&state)?;
+        self.state.copy_from(state)?;
         Ok(())
     }
 
@@ -195,10 +195,10 @@ pub fn clear_rows(rows: &mut Vec<Row>)
 /// # Errors
 ///
 /// Want of memory.
-pub fn put_state(rows: &mut Vec<Row>, process: ProcId, state: ProcState) -> Result<(), NoMemory>
+pub fn put_state(rows: &mut Vec<Row>, process: ProcId, state: &ProcState) -> Result<(), NoMemory>
     requires number { process_number process < length rows.old.items }
-    requires state { IsStateAt rows.old.items (process_number process) state }
-    ensures { OnOk result (PutsState rows.old.items rows.new.items (process_number process) state) }
+    requires state { IsStateAt rows.old.items (process_number process) state.now }
+    ensures { OnOk result (PutsState rows.old.items rows.new.items (process_number process) state.now) }
 {
     rows[process.0 as usize].put_state(state)
 }

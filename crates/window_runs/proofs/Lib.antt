@@ -6,3 +6,4 @@ pub mod Standing
 pub mod Through
 pub mod Fronts
 pub mod Dues
+pub mod Slots

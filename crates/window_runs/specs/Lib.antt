@@ -3,3 +3,5 @@ pub mod RunsByProcess
 pub mod Standing
 pub mod RunLaws
 pub mod Through
+pub mod OfPhase
+pub mod OfSlot

@@ -5,7 +5,8 @@
 //! runs on from those before it. `RunIndex::refill` makes an index of such a list, which tells of each process the phases and the places of its own runs; `run` finds by
 //! it the n-th run of a process in a phase, by binary search, `last` its last one, and `last_through` the last one in the first phases. `states_after` tells where each
 //! process stands after all the runs, and `updates_after` what nonblocking updates it has pending then (clause 9.2.2); `pending_through` tells the same of one process after the
-//! first phases. `runs_between` gives the runs of some phases in a row.
+//! first phases. `runs_between` gives the runs of some phases in a row; `PhaseRuns` has those of one phase, with what each of their steps did, and `SlotRuns` those of a slot's
+//! phases.
 #![tactic(auto)]
 
 mod index;
@@ -13,6 +14,8 @@ mod latest;
 mod laws;
 mod numbers;
 mod parts;
+mod phase;
+mod slot;
 mod states;
 mod updates;
 
@@ -20,5 +23,7 @@ pub use index::RunIndex;
 pub use laws::ends_go_on;
 pub use numbers::number_from;
 pub use parts::runs_between;
+pub use phase::PhaseRuns;
+pub use slot::SlotRuns;
 pub use states::{standing_after, states_after};
 pub use updates::updates_after;

@@ -20,6 +20,6 @@ returns c =
     IfOk-weaker c.put_state.result _ _
     (λ x h row is.
     let same : old ≡ row = c.index_mut.ensures.value ∙ get_or_default rows p old row c.requires.number ∙ sym is in
-    rows-change rows p old c.put_state.new.self (doing (activity_of row.code c.args.state)) c.requires.number c.index_mut.ensures.value
-    (subst (λ (r : Row). RowChanges old c.put_state.new.self (doing (activity_of r.code c.args.state) (row_state old))) same h))
+    rows-change rows p old c.put_state.new.self (doing (activity_of row.code c.args.state.now)) c.requires.number c.index_mut.ensures.value
+    (subst (λ (r : Row). RowChanges old c.put_state.new.self (doing (activity_of r.code c.args.state.now) (row_state old))) same h))
     c.put_state.ensures

@@ -1,4 +1,4 @@
-use Rattle.std.proofs.Common.{◌≡◌, ◌<◌, ◌∙◌, ℕ, List, true, length, map, ap, sym, subst, arith, refl}
+use Rattle.std.proofs.Common.{◌≡◌, ◌<◌, ◌∙◌, ℕ, List, length, map, ap, sym, subst, arith, refl}
 use Rattle.std.specs.Prelude.{Option, IfSome}
 use Rattle.std.proofs.lemmas.List.{length-map}
 use Rattle.vf_base.specs.Base.{process_number}
@@ -6,29 +6,17 @@ use Rattle.v_design.specs.Designs.{FlatProcess}
 use Rattle.v_design.specs.PlainDesigns.{design_of}
 use Rattle.v_design.specs.Reads.{named_by}
 use Rattle.v_design.specs.RulesHold.{rules_hold}
-use Rattle.v_design.specs.States.{ProcessState, is_ready}
 use Rattle.process_operands.specs.BoundsLaws.{AreBelow}
 use Rattle.process_code.specs.Points.{StepSaid, SaysRead, SaysWrite, SaysLater, SaysAwait, SaysSleep, SaysZero, SaysFinished, SaysInner, ReadsBelow, said_by}
 use Rattle.process_table.specs.declared.row.Row.{Row}
-use Rattle.process_table.specs.declared.table.ProcessTable.{ProcessTable}
 use Rattle.process_table.specs.Rows.{row_states, row_text, row_state, state_at, text_at}
-use Rattle.process_table.specs.Arranged.{IsKept, table_of}
 use Rattle.process_table.specs.Deeds.{read_said}
-use Rattle.process_table.specs.Tables.{process_in}
 use Rattle.process_table.proofs.Bodies.{bodies-waitable, bodies-below}
-use Rattle.process_table.proofs.Changed.{ready-low, rows-length, holding-at}
-use Rattle.process_table.proofs.TableCalls.{process-row, count-ready, count-queue, ready-free}
+use Rattle.process_table.proofs.Changed.{rows-length, holding-at}
+use Rattle.process_table.proofs.TableCalls.{count-ready, count-queue, ready-free}
+use Rattle.process_table.proofs.Known.{ready-row, low}
 use Rattle.process_table.proofs.Steps.{table-step, is-step}
 use Rattle.process_table.proofs.table.ProcessTable.step.Goals as goal
-
--- the process's row is ready
-ready-row : (t : ProcessTable) → IsKept t → (p : ℕ) → is_ready (process_in (table_of t) p).activity ≡ true → is_ready (state_at (row_states t.rows.items) p).activity ≡ true
-ready-row t kept p ready =
-    ap (λ (process : ProcessState). is_ready process.activity) (sym (process-row (design_of t.design.now) t.time t.rows.items t.index t.ready t.lanes t.queue kept p)) ∙ ready
-
--- and there
-low : (t : ProcessTable) → IsKept t → (p : ℕ) → is_ready (process_in (table_of t) p).activity ≡ true → p < length (row_states t.rows.items)
-low t kept p ready = ready-low (row_states t.rows.items) p (ready-row t kept p ready)
 
 -- as many rows after a step
 as-many : (old new : List Row) → map row_text new ≡ map row_text old → length (row_states new) ≡ length (row_states old)
