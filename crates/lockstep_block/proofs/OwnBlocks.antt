@@ -55,7 +55,7 @@ use Rattle.own_slots.specs.Slots.{OwnSoFar}
 use Rattle.good_runs.specs.declared.tried.TriedStep.{TriedStep}
 use Rattle.run_numbers.specs.declared.numbers.RunApart.{RunApart}
 use Rattle.faulty_block.specs.block_runner.Beside.{TellsBeside}
-use Rattle.faulty_block.specs.block_runner.declared.beside.GoodPhase.{GoodPhase}
+use Rattle.faulty_block.specs.block_runner.declared.goods.GoodPhase.{GoodPhase}
 use Rattle.faulty_block.specs.Runs.{MayRun, RanBlock, StepsWithin, TicksTried}
 use Rattle.faulty_block.proofs.Differs.{is-back, kept-behind}
 use Rattle.lockstep_block.specs.Beside.{ComparesBeside, MayCompareBeside, acts_beside, parts_beside}

@@ -7,6 +7,7 @@ use Rattle.v_design.specs.States.{State}
 use Rattle.v_design.specs.WellFormed.{KeepsRules}
 use Rattle.race_laws.specs.Writes.{WritesAreOf}
 use Rattle.block_compare.specs.block_events.Runners.{machine_of, state_of}
+use Rattle.block_runner.specs.Beside.{AreFew}
 use Rattle.faulty_block.proofs.Ran.{put-rests, put-time, put-writes, ran-block, ran-some, ran-within, tells-put}
 use Rattle.faulty_block.proofs.run.run_faulty.Goals as goal
 
@@ -42,6 +43,9 @@ run_block-requires-clause-goods g c =
       tells = tells-put c.args.runner.now c.put_in.new.runner (fault_of c.args.fault) may.runs may.numbers c.args.goods.now c.in_ok-put_in.ensures.machine
           (ap (λ (s : State). s.time) put.rest ∙ sym c.requires.run.put.makes.lockstep.time) may.tells;
     }
+
+pub run_block-requires-clause-few : goal.run_block-requires-clause-few
+run_block-requires-clause-few g c = subst (λ (m : Machine). AreFew m c.args.goods.now c.args.most) (sym c.in_ok-put_in.ensures.machine) c.requires.few
 
 pub returns-clause-whole : goal.returns-clause-whole
 returns-clause-whole g c = c.in_ok-end.ensures.goes.whole
