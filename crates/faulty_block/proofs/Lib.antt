@@ -1,5 +1,6 @@
 pub mod Rests
 pub mod Lanes
+pub mod KeptAlike
 pub mod Ran
 pub mod PutBack
 pub mod Differs

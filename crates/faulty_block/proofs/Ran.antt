@@ -1,22 +1,28 @@
 -- The block that a faulty machine took.
-use Rattle.std.proofs.Common.{◌≡◌, ℕ, ◌+◌, ◌<◌, ◌≤◌, ◌^◌, Bool, true, false, List, cond, length, ap, sym, subst, ◌∙◌, refl, arith}
-use Rattle.std.specs.Prelude.{Option, Some, None, IfSome, IsSome, MatchOption, is_some, sum_by}
-use Rattle.std.specs.Option.{option_map}
-use Rattle.vf_base.specs.Base.{process_number}
+use Rattle.std.proofs.Common.{◌≡◌, ℕ, ◌+◌, ◌<◌, ◌≤◌, ◌^◌, Bool, true, false, List, [], cond, length, ap, sym, subst, ◌∙◌, refl, arith}
+use Rattle.std.specs.Prelude.{Option, Some, None, IfSome, IsSome, sum_by}
 use Rattle.vf_base.specs.Lists.{AllHold}
-use Rattle.vf_base.specs.declared.ids.ProcId.{ProcId}
-use Rattle.v_design.specs.Designs.{Machine, StuckAt, faulty_machine}
+use Rattle.v_design.specs.Designs.{FlatDesign, Machine, StuckAt, faulty_machine}
+use Rattle.v_design.specs.OwnSteps.{ProcessRun, StepSeen, runs_of, steps_in}
+use Rattle.v_design.specs.Processes.{Activity}
 use Rattle.v_design.specs.Runs.{happened, work_of}
-use Rattle.v_design.specs.States.{State, ProcessState, Event, process_at}
+use Rattle.v_design.specs.States.{State, ProcessState, Event, process_at, source_at}
 use Rattle.v_design.specs.Writers.{process_objects}
 use Rattle.machine_laws.specs.SlotLoop.{NoNodeWorks, first_lane, steps_of}
-use Rattle.machine_events.specs.Steps.{event_steps}
 use Rattle.copy_laws.specs.Beside.{AreFirst}
+use Rattle.copy_laws.specs.OwnRuns.{StepsGrow}
+use Rattle.copy_laws.specs.SharedRuns.{IsRunFrom}
 use Rattle.race_laws.specs.Writes.{WritesAreOf}
 use Rattle.lockstep_laws.specs.Lockstep.{LockstepIsBeside, StandBeside}
 use Rattle.block_compare.specs.block_events.declared.runner.Runner.{Runner}
 use Rattle.block_compare.specs.block_events.Runners.{machine_of, state_of}
+use Rattle.block_runner.specs.Beside.{TellsBeside}
 use Rattle.block_runner.specs.Ends.{EndsSo, GoesOn}
+use Rattle.block_runner.specs.declared.beside.GoodPhase.{GoodPhase}
+use Rattle.window_runs.specs.OfPhase.{TellsRuns}
+use Rattle.run_numbers.specs.Numbers.{times_of}
+use Rattle.good_runs.specs.Kept.{Keeps}
+use Rattle.good_runs.specs.declared.tried.TriedStep.{TriedStep}
 use Rattle.block_runner.specs.declared.blocks.BlockEnd.{BlockEnd}
 use Rattle.block_runner.specs.declared.blocks.BlockEnd.TheVariants.{Ran}
 use Rattle.block_told.specs.declared.told.BlockTold.{BlockTold}
@@ -28,8 +34,8 @@ use Rattle.block_compare.specs.lockstep_copy.declared.own.LockstepCopy.{Lockstep
 use Rattle.block_compare.specs.lockstep_exchange.Exchange.{ArePutFor, MayPutIn}
 use Rattle.block_compare.specs.lockstep_slots.Kept.{kept_within}
 use Rattle.block_compare.specs.moment_shown.declared.shown.ShownBlock.{ShownBlock}
-use Rattle.block_runner.proofs.Counted.{lane-steps, process-steps}
 use Rattle.faulty_block.specs.Runs.{MayRun, RanBlock, StepsWithin, acts_in}
+use Rattle.faulty_block.proofs.KeptAlike.{GoAlike, begin-alike, keeps-alike, steps-alike}
 use Rattle.faulty_block.proofs.Lanes.{steps-lane}
 
 -- The state that is put in
@@ -90,19 +96,28 @@ module _ (side : LockstepIsBeside) (law : WritesAreUnseen) (runner begins : Runn
   steps-acting events one first =
       steps-lane (machine_of begins) (acts_in block) (state_of begins) events put-rests (λ process is. of.lane process (sym lane-same ∙ is)) one first
 
-  module _ (new : Runner) (fault : StuckAt) (most : ℕ) (end : BlockEnd) (told : BlockTold) (ticked : ℕ) (machine : machine_of begins ≡ faulty_machine (machine_of runner).design fault)
-      (goes : GoesOn (machine_of begins) (state_of begins) most end new told) (one : IsSome (first_lane (state_of begins)) → told.steps ≡ 1) (counted : event_steps goes.events ≡ ticked) where
+  module _ (grow : StepsGrow) (new : Runner) (fault : StuckAt) (most : ℕ) (end : BlockEnd) (told : BlockTold) (runs : ℕ → List ProcessRun) (numbers : ℕ → ℕ) (phase : ℕ) (more : List TriedStep)
+      (machine : machine_of begins ≡ faulty_machine (machine_of runner).design fault) (goes : GoesOn (machine_of begins) (state_of begins) most end new told)
+      (one : IsSome (first_lane (state_of begins)) → told.steps ≡ 1) (keeps : Keeps runs numbers (machine_of begins) phase (state_of begins) [] goes.events more) where
     may : AllHold (StepsLane (acts_in block)) goes.events
     may = steps-acting goes.events (λ some. sym goes.tells.count ∙ one some) goes.in_order
 
+    go : GoAlike grow law (machine_of begins) (acts_in block) of.put.faulty (state_of begins) []
+    go = begin-alike grow law (machine_of begins) (acts_in block) of.put.faulty (state_of begins) alike
+
+    -- the same steps are kept of the faulty machine's own block
+    kept : Keeps runs numbers (machine_of begins) phase of.put.faulty [] goes.events more
+    kept = keeps-alike grow law (machine_of begins) (acts_in block) of.put.faulty (state_of begins) runs numbers phase alike.time [] goes.events more go may keeps
+
     -- the block that it took is one of the faulty machine
-    pub ran-block : (taken : ℕ) → end ≡ Ran → told.steps ≡ taken →
-        RanBlock (faulty_machine (machine_of runner).design fault) (acts_in block) of.put.faulty (state_of runner) taken ticked new told
-    ran-block taken ran steps =
+    pub ran-block : (taken : ℕ) (ended : List ℕ) → end ≡ Ran → told.steps ≡ taken →
+        ((process : ℕ) → length (runs_of (steps_in (machine_of begins) process (state_of begins) goes.events)) ≡ times_of process ended) →
+        RanBlock (faulty_machine (machine_of runner).design fault) (acts_in block) of.put.faulty (state_of runner) runs numbers phase taken new told ended more
+    ran-block taken ended ran steps counted =
         let next : AreAlike (acts_in block) (happened (machine_of begins) of.put.faulty goes.events) (happened (machine_of begins) (state_of begins) goes.events) =
         (law.events (machine_of begins) (acts_in block) of.put.faulty (state_of begins) goes.events alike may goes.in_order).1 in
         let whole : AreBlock (machine_of begins) (state_of begins) goes.events = subst (EndsSo (machine_of begins) (state_of begins) most goes.events) ran goes.ends in
-        subst (λ (m : Machine). RanBlock m (acts_in block) of.put.faulty (state_of runner) taken ticked new told) machine
+        subst (λ (m : Machine). RanBlock m (acts_in block) of.put.faulty (state_of runner) runs numbers phase taken new told ended more) machine
         (record {
           events = goes.events;
           block = law.block (machine_of begins) (acts_in block) of.put.faulty (state_of begins) goes.events alike may whole;
@@ -118,34 +133,46 @@ module _ (side : LockstepIsBeside) (law : WritesAreUnseen) (runner begins : Runn
               ∙ ap (λ (b : Bool). cond b (process_at of.put.faulty process) (process_at (state_of runner) process)) acts;
           tells = law.tells (machine_of begins) (acts_in block) of.put.faulty (state_of begins) goes.events told alike may goes.tells;
           steps_are = steps;
-          ticked_are = counted;
+          keeps = kept;
+          ended_are = λ process.
+              sym (ap (λ (l : List (Activity × StepSeen)). length (runs_of l)) (steps-alike grow law (machine_of begins) (acts_in block) of.put.faulty (state_of begins) [] goes.events go may process))
+              ∙ counted process;
         })
 
     -- also where it was given up
-    pub ran-within : told.steps ≤ most + 1 → StepsWithin (faulty_machine (machine_of runner).design fault) of.put.faulty most ticked
-    ran-within few = record {
-      events = goes.events;
-      in_order =
-          subst (λ (m : Machine). AreFirst m of.put.faulty goes.events) machine
-          (law.events (machine_of begins) (acts_in block) of.put.faulty (state_of begins) goes.events alike may goes.in_order).0;
-      few = (let count : told.steps ≡ sum_by steps_of goes.events = goes.tells.count in omega (arith, count, few));
-      ticked_are = counted;
+    pub ran-within : told.steps ≤ most + 1 → StepsWithin (faulty_machine (machine_of runner).design fault) of.put.faulty runs numbers phase most more
+    ran-within few =
+        subst (λ (m : Machine). StepsWithin m of.put.faulty runs numbers phase most more) machine
+        (record {
+          events = goes.events;
+          in_order = (law.events (machine_of begins) (acts_in block) of.put.faulty (state_of begins) goes.events alike may goes.in_order).0;
+          few = (let count : told.steps ≡ sum_by steps_of goes.events = goes.tells.count in omega (arith, count, few));
+          keeps = kept;
+        })
+
+-- what is told beside the good machine is told beside the faulty one
+pub tells-put : (runner begins : Runner) (fault : StuckAt) (runs : ℕ → List ProcessRun) (numbers : ℕ → ℕ) (kept : GoodPhase) → machine_of begins ≡ faulty_machine (machine_of runner).design fault →
+    (state_of begins).time ≡ (state_of runner).time → TellsBeside (machine_of runner) (state_of runner) runs numbers kept → TellsBeside (machine_of begins) (state_of begins) runs numbers kept
+tells-put runner begins fault runs numbers kept machine time of =
+    let design : (machine_of begins).design ≡ (machine_of runner).design = ap (λ (m : Machine). m.design) machine in
+    record {
+      tells = subst (λ t. TellsRuns (machine_of begins).design t runs kept.goods) (sym time) (subst (λ (d : FlatDesign). TellsRuns d (state_of runner).time runs kept.goods) (sym design) of.tells);
+      each = λ process low.
+          subst (λ t. AllHold (IsRunFrom (source_at (machine_of begins) process) t) (runs process)) (sym time)
+          (subst (λ (m : Machine). AllHold (IsRunFrom (source_at m process) (state_of runner).time) (runs process)) (sym machine)
+          (of.each process (subst (λ (d : FlatDesign). process < length d.processes) design low)));
+      are = of.are;
+      count = of.count ∙ sym (ap (λ (d : FlatDesign). length d.processes) design);
     }
 
 -- where it was run to its end
-pub ran-some : (runner new : Runner) (own : LockstepCopy) (block : ShownBlock) (fault : StuckAt) (end : BlockEnd) (told : BlockTold) (found : Option ℕ) (ticked : ℕ) →
-    ((of : MayRun (acts_in block) own runner) (taken : ℕ) → end ≡ Ran → told.steps ≡ taken →
-    RanBlock (faulty_machine (machine_of runner).design fault) (acts_in block) of.put.faulty (state_of runner) taken ticked new told) → IfSome found (λ taken. end ≡ Ran) →
-    IfSome found (λ taken. told.steps ≡ taken) →
+pub ran-some : (runner new : Runner) (own : LockstepCopy) (block : ShownBlock) (fault : StuckAt) (end : BlockEnd) (told : BlockTold) (found : Option ℕ) (kept : GoodPhase) (phase : ℕ) (ended : List ℕ)
+    (more : List TriedStep) →
+    ((of : MayRun (acts_in block) own runner) (runs : ℕ → List ProcessRun) (numbers : ℕ → ℕ) → TellsBeside (machine_of runner) (state_of runner) runs numbers kept → (taken : ℕ) → end ≡ Ran →
+    told.steps ≡ taken → RanBlock (faulty_machine (machine_of runner).design fault) (acts_in block) of.put.faulty (state_of runner) runs numbers phase taken new told ended more) →
+    IfSome found (λ taken. end ≡ Ran) → IfSome found (λ taken. told.steps ≡ taken) →
     IfSome found (λ taken.
-    (of : MayRun (acts_in block) own runner) → RanBlock (faulty_machine (machine_of runner).design fault) (acts_in block) of.put.faulty (state_of runner) taken ticked new told)
-ran-some runner new own block fault end told None ticked block-is ran steps = tt
-ran-some runner new own block fault end told (Some taken) ticked block-is ran steps = λ of. block-is of taken ran steps
-
--- so many of its steps are process steps
-pub process-counted : (machine : Machine) (state : State) (most : ℕ) (end : BlockEnd) (runner : Runner) (told : BlockTold) (lane : Option ProcId) (ticked : ℕ) → NoNodeWorks state →
-    option_map process_number lane ≡ first_lane state → (IsSome (first_lane state) → told.steps ≡ 1) → MatchOption lane (ticked ≡ told.steps) (λ process. ticked ≡ 0) →
-    (goes : GoesOn machine state most end runner told) → event_steps goes.events ≡ ticked
-process-counted machine state most end runner told None ticked rests is one by goes = process-steps machine state goes.events (sym is) goes.in_order ∙ sym goes.tells.count ∙ sym by
-process-counted machine state most end runner told (Some process) ticked rests is one by goes =
-    lane-steps machine state (process_number process) goes.events rests (sym is) goes.in_order (sym goes.tells.count ∙ one (ap is_some (sym is))) ∙ sym by
+    (of : MayRun (acts_in block) own runner) (runs : ℕ → List ProcessRun) (numbers : ℕ → ℕ) → TellsBeside (machine_of runner) (state_of runner) runs numbers kept →
+    RanBlock (faulty_machine (machine_of runner).design fault) (acts_in block) of.put.faulty (state_of runner) runs numbers phase taken new told ended more)
+ran-some runner new own block fault end told None kept phase ended more block-is ran steps = tt
+ran-some runner new own block fault end told (Some taken) kept phase ended more block-is ran steps = λ of runs numbers tells. block-is of runs numbers tells taken ran steps

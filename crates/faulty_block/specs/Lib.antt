@@ -8,3 +8,4 @@ pub use Rattle.block_compare.specs.copy_skip as copy_skip
 pub use Rattle.block_compare.specs.lockstep_compare as lockstep_compare
 pub use Rattle.block_compare.specs.lockstep_copy as lockstep_copy
 pub use Rattle.block_compare.specs.block_events as block_events
+pub use Rattle.block_runner.specs as block_runner

@@ -1,14 +1,18 @@
 -- A block that a faulty machine in lockstep runs by itself (blocks and slots by IEEE 1364-2001, clause 5).
-use Rattle.std.specs.Prelude.{◌≡◌, ℕ, ◌+◌, ◌≤◌, ◌^◌, Bool, true, false, List, length, map, Some, sum_by}
+use Rattle.std.specs.Prelude.{◌≡◌, ℕ, ◌+◌, ◌≤◌, ◌^◌, Bool, true, false, List, [], ◌++◌, length, map, Some, sum_by}
 use Rattle.vf_base.specs.Base.{process_number}
 use Rattle.v_design.specs.Designs.{Machine}
 use Rattle.v_design.specs.States.{State, Event, process_at}
+use Rattle.v_design.specs.OwnSteps.{ProcessRun, runs_of, steps_in}
 use Rattle.v_design.specs.Runs.{happened}
 use Rattle.v_design.specs.WellFormed.{KeepsRules}
 use Rattle.machine_laws.specs.SlotLoop.{NoNodeWorks, first_lane, steps_of}
-use Rattle.machine_events.specs.Steps.{event_steps}
+use Rattle.machine_events.specs.Steps.{raised_by}
 use Rattle.copy_laws.specs.Beside.{AreFirst}
 use Rattle.race_laws.specs.Writes.{WritesAreOf}
+use Rattle.run_numbers.specs.Numbers.{times_of}
+use Rattle.good_runs.specs.Kept.{Keeps}
+use Rattle.good_runs.specs.declared.tried.TriedStep.{TriedStep}
 use Rattle.block_compare.specs.block_events.declared.runner.Runner.{Runner}
 use Rattle.block_compare.specs.block_events.Runners.{IsWhole, machine_of, state_of}
 use Rattle.block_told.specs.declared.told.BlockTold.{BlockTold}
@@ -32,9 +36,11 @@ pub record MayRun (acts : ℕ → Bool) (own : LockstepCopy) (runner : Runner) :
   pub time : put.faulty.time ≤ 2 ^ 63
   pub lane : (process : ℕ) → first_lane (state_of runner) ≡ Some process → acts process ≡ true
 
--- a runner is a machine, which took a block of so many process and lane steps from a state, so many of which are process steps, and is told; it is in the state behind the block, but for what those
--- processes have yet to write that don't act: these are the good ones where the block left them alone
-pub record RanBlock (machine : Machine) (acts : ℕ → Bool) (begins good : State) (taken ticked : ℕ) (runner : Runner) (told : BlockTold) : Type 0 where
+-- a runner is a machine, which took a block of so many process and lane steps from a state, and is told; it is in the state behind the block, but for what those processes have yet to write that
+-- don't act: these are the good ones where the block left them alone; beside good runs of a phase, of which so many of each process ended before, such steps are kept, and these processes ended
+-- their runs, each once for each run
+pub record RanBlock (machine : Machine) (acts : ℕ → Bool) (begins good : State) (goods : ℕ → List ProcessRun) (numbers : ℕ → ℕ) (phase taken : ℕ) (runner : Runner) (told : BlockTold)
+    (ended : List ℕ) (tried : List TriedStep) : Type 0 where
   pub events : List Event
   pub block : AreBlock machine begins events
   pub whole : IsWhole runner
@@ -45,11 +51,18 @@ pub record RanBlock (machine : Machine) (acts : ℕ → Bool) (begins good : Sta
   pub others : (process : ℕ) → acts process ≡ false → (parts_told told).processes process ≡ false → process_at (state_of runner) process ≡ process_at good process
   pub tells : TellsBlock machine begins events told
   pub steps_are : told.steps ≡ taken
-  pub ticked_are : event_steps events ≡ ticked
+  pub keeps : Keeps goods numbers machine phase begins [] events tried
+  pub ended_are : (process : ℕ) → length (runs_of (steps_in machine process begins events)) ≡ times_of process ended
 
--- from a state a machine takes events of the first order, of which so many are process steps, and which take one process or lane step at most beyond so many
-pub record StepsWithin (machine : Machine) (begins : State) (most ticked : ℕ) : Type 0 where
+-- from a state a machine takes events of the first order, which take one process or lane step at most beyond so many; beside good runs such steps of them are kept
+pub record StepsWithin (machine : Machine) (begins : State) (goods : ℕ → List ProcessRun) (numbers : ℕ → ℕ) (phase most : ℕ) (tried : List TriedStep) : Type 0 where
   pub events : List Event
   pub in_order : AreFirst machine begins events
   pub few : sum_by steps_of events ≤ most + 1
-  pub ticked_are : event_steps events ≡ ticked
+  pub keeps : Keeps goods numbers machine phase begins [] events tried
+
+-- behind some kept steps there are these, each of which ticked
+pub record TicksTried (old new : List TriedStep) (before now : ℕ) : Type 0 where
+  pub more : List TriedStep
+  pub are : new ≡ old ++ more
+  pub ticks : now ≡ raised_by (length more) before

@@ -124,6 +124,13 @@ impl<N: World> GoodMoment<N> {
         self.place.moment
     }
 
+    /// How many runs of processes have ended in the slot.
+    pub fn runs(&self) -> usize
+        ensures { result ≡ self.now.runs }
+    {
+        self.place.runs
+    }
+
     /// The objects that the block passed last wrote; one may be named twice.
     pub fn changed(&self) -> &[ObjectId]
         ensures { map object_number result.now ≡ self.now.changed }

@@ -1,5 +1,5 @@
 -- What a window tells of runs and of processes, whichever codes of the processes one has.
-use Rattle.std.proofs.Common.{◌≡◌, ℕ, ◌+◌, ◌<◌, Bool, true, false, ◌&&◌, List, map, length, refl, sym, ap, subst, ◌∙◌, inl, inr, arith}
+use Rattle.std.proofs.Common.{◌≡◌, ℕ, ◌+◌, ◌<◌, Bool, true, false, ◌&&◌, List, map, length, get_or, refl, sym, ap, subst, ◌∙◌, inl, inr, arith}
 use Rattle.std.specs.Prelude.{Option, Some, None, option_map, nat_eq, slice_get}
 use Rattle.std.proofs.lemmas.Bool.{eqb-true}
 use Rattle.std.proofs.lemmas.List.Elements.{All-filter, filter_passes}
@@ -9,7 +9,7 @@ use Rattle.v_design.specs.Designs.{FlatDesign, TestPlan}
 use Rattle.v_design.specs.Plain.{process_of}
 use Rattle.v_design.specs.Grades.{Phase}
 use Rattle.process_code.specs.OneCode.{ReadsAlike, CodesReadAlike}
-use Rattle.process_code.specs.RunEnds.{told_by}
+use Rattle.process_code.specs.RunEnds.{StandsIn, told_by}
 use Rattle.process_code.specs.StatesOf.{IsStateOf}
 use Rattle.process_code.specs.declared.code.Code.{Code}
 use Rattle.process_code.specs.declared.state.ProcState.{ProcState}
@@ -53,7 +53,9 @@ TellsRun-found alike design plan before through count states runs index process 
       ∙ sym (told kept.code code reads.told (slice_get (ends_of phase process runs) number))
       ∙ sym (slice_get-map (told_by kept.code) (ends_of phase process runs) number)
       ∙ ap (λ l. slice_get l number) (ap (λ n. map (told_by kept.code) (ends_of n process runs)) at ∙ had.kept.runs_are.told place process one kept.code stands kept.here);
-  state_of = λ code run own there. (reads-alike alike design process kept.code code kept.is own).states run.state (state run (sym is ∙ there));
+  state_of = λ code run own there. (reads-alike alike design process kept.code code kept.is own).states run.state (states run (sym is ∙ there)).0;
+  stand = λ code run own there k d within.
+      (reads-alike alike design process kept.code code kept.is own).states (get_or run.steps k d).state ((states run (sym is ∙ there)).1 k d within);
 }
   where
     kept : HasCode design had.codes process
@@ -63,16 +65,16 @@ TellsRun-found alike design plan before through count states runs index process 
     told first second same None = refl
     told first second same (Some run) = ap Some (same run)
 
-    state : (run : RunEnd) → slice_get (ends_of phase process runs) number ≡ Some run → IsStateOf (has-code design had.codes process had.kept.codes_are low).code run.state
-    state run there =
+    states : (run : RunEnd) → slice_get (ends_of phase process runs) number ≡ Some run → StandsIn (has-code design had.codes process had.kept.codes_are low).code run
+    states run there =
         let within : number < length (ends_of phase process runs) = slice_get_within (ends_of phase process runs) number run there in
         let same = get_or_from_slice_get (ends_of phase process runs) number run run there in
         let ends = subst (IsEndWithin had.codes (length (window_phases design plan before through))) same
         (All-filter (is_end_of phase process) (IsEndWithin had.codes (length (window_phases design plan before through))) runs had.kept.runs_are.within number run within) in
         let passes : is_end_of phase process run ≡ true = subst (λ (x : RunEnd). is_end_of phase process x ≡ true) same (filter_passes (is_end_of phase process) runs number run within) in
         let own = has-code design had.codes process had.kept.codes_are low in
-        ends.state own.code (ap (λ n. slice_get had.codes n) (eqb-true (process_number run.process) process (both (nat_eq run.phase phase) (nat_eq (process_number run.process) process) passes))
-        ∙ own.here)
+        let here = ap (λ n. slice_get had.codes n) (eqb-true (process_number run.process) process (both (nat_eq run.phase phase) (nat_eq (process_number run.process) process) passes)) ∙ own.here in
+        (ends.state own.code here, ends.steps own.code here)
 
 -- where a process stands
 pub Stands-kept : CodesReadAlike → (design : FlatDesign) (plan : TestPlan) (before through count : ℕ) (states : List ProcState) (runs : List RunEnd) (index : RunIndex) (process : ℕ)

@@ -8,7 +8,7 @@ use Rattle.v_design.specs.Grades.{Phase}
 use Rattle.v_design.specs.OwnSteps.{process_runs}
 use Rattle.v_design.specs.declared.plan.Due.{Due}
 use Rattle.process_code.specs.Points.{activity_of}
-use Rattle.process_code.specs.RunEnds.{told_by}
+use Rattle.process_code.specs.RunEnds.{StepsStandIn, told_by}
 use Rattle.process_code.specs.StatesOf.{IsStateOf}
 use Rattle.process_code.specs.declared.code.Code.{Code}
 use Rattle.process_code.specs.declared.state.ProcState.{ProcState}
@@ -32,11 +32,12 @@ pub record Stands (design : FlatDesign) (process : ℕ) (activity : Activity) (s
   pub state_of : (code : Code) → IsCodeAt design process code → IsStateOf code state
   pub does : (code : Code) → IsCodeAt design process code → activity_of code state ≡ activity
 
--- what was found tells, by each code of a process, of its run of a number in a phase, if there is one, and ends in a state of that code
+-- what was found tells, by each code of a process, of its run of a number in a phase, if there is one, ends in a state of that code, and has its process in one before each step
 pub record TellsRun (design : FlatDesign) (process : ℕ) (phase : Phase) (number : ℕ) (found : Option RunEnd) : Type 0 where
   pub told : (code : Code) → IsCodeAt design process code →
       option_map (told_by code) found ≡ slice_get (map (told_of phase.begins.time) (process_runs (good_machine design) process phase)) number
   pub state_of : (code : Code) (run : RunEnd) → IsCodeAt design process code → found ≡ Some run → IsStateOf code run.state
+  pub stand : (code : Code) (run : RunEnd) → IsCodeAt design process code → found ≡ Some run → StepsStandIn code run.steps
 
 -- What is kept
 

@@ -1,6 +1,7 @@
 -- A block of its own that a fault takes beside the good machine's: it is run, compared and noted, and the runner goes back.
-use Rattle.std.proofs.Common.{◌≡◌, ℕ, zero, suc, ◌+◌, ◌-◌, ◌^◌, ◌<◌, ◌≤◌, List, [], ◌∷◌, ◌++◌, length, map, Bool, true, false, ◌||◌, refl, sym, ap, subst, ◌∙◌, arith}
+use Rattle.std.proofs.Common.{◌≡◌, ℕ, zero, suc, ◌+◌, ◌-◌, ◌^◌, ◌<◌, ◌≤◌, List, [], ◌∷◌, ◌++◌, drop, length, map, Bool, true, false, ◌||◌, refl, sym, ap, subst, ◌∙◌, arith}
 use Rattle.std.specs.Prelude.{Some, None, sum_by}
+use Rattle.std.proofs.Math.Seq.{drop-append_seam}
 use Rattle.std.proofs.lemmas.List.{length-append}
 use Rattle.vf_base.specs.Base.{object_number}
 use Rattle.vf_base.specs.Lists.{has}
@@ -8,11 +9,13 @@ use Rattle.vf_base.specs.declared.ids.ObjectId.{ObjectId}
 use Rattle.v_design.specs.Designs.{FlatDesign, Machine, StuckAt, TestPlan, good_machine, faulty_machine, width_in}
 use Rattle.v_design.specs.PhaseLogs.{is_lane_of}
 use Rattle.v_design.specs.States.{State, Event, process_at, some_in}
-use Rattle.v_design.specs.Runs.{happened, most_steps, work_of}
+use Rattle.v_design.specs.Grades.{phases}
+use Rattle.v_design.specs.OwnSteps.{ProcessRun}
+use Rattle.v_design.specs.Runs.{happened, work_of}
 use Rattle.v_design.specs.WellFormed.{KeepsRules}
 use Rattle.graded_steps.specs.Behind.{RisesWithin}
-use Rattle.machine.specs.Ticks.{event_steps, process_steps, raised_by, steps-few, steps_so_far}
-use Rattle.machine_laws.specs.SlotLoop.{Moment, ComesTo, after_events, first_lane, slot_from, steps_of}
+use Rattle.machine.specs.Ticks.{raised_by}
+use Rattle.machine_laws.specs.SlotLoop.{Moment, ComesTo, after_events, first_lane, steps_of}
 use Rattle.copy_laws.specs.Moves.{ChangesOnly}
 use Rattle.copy_laws.specs.OwnRuns.{EventsTakeNoTime}
 use Rattle.race_laws.specs.Writes.{WritesAreOf, WritesStay}
@@ -47,12 +50,20 @@ use Rattle.lockstep_steps.specs.Laws.{StepsGoOn}
 use Rattle.lockstep_steps.proofs.Events.{behind-state, place-behind}
 use Rattle.race_notes.specs.Notes.{NotesKept}
 use Rattle.faulty_block.proofs.block_compare.Same.{each-of, or-both}
-use Rattle.slot_steps.specs.Laws.{SlotStepsGoOn}
-use Rattle.faulty_block.specs.Runs.{MayRun, RanBlock, StepsWithin}
+use Rattle.run_ends.specs.RunEnds.{enders_in}
+use Rattle.own_slots.specs.Slots.{OwnSoFar}
+use Rattle.good_runs.specs.declared.tried.TriedStep.{TriedStep}
+use Rattle.run_numbers.specs.declared.numbers.RunApart.{RunApart}
+use Rattle.faulty_block.specs.block_runner.Beside.{TellsBeside}
+use Rattle.faulty_block.specs.block_runner.declared.beside.GoodPhase.{GoodPhase}
+use Rattle.faulty_block.specs.Runs.{MayRun, RanBlock, StepsWithin, TicksTried}
 use Rattle.faulty_block.proofs.Differs.{is-back, kept-behind}
 use Rattle.lockstep_block.specs.Beside.{ComparesBeside, MayCompareBeside, acts_beside, parts_beside}
+use Rattle.lockstep_block.specs.Blocks.{TriedInSlot}
 use Rattle.lockstep_block.specs.Own.{MayRunOwn, TookOwn}
+use Rattle.lockstep_block.specs.Runs.{IsGoodPhase, NotesEnded}
 use Rattle.lockstep_block.proofs.GoodWrites.{good-writes, lane-steps}
+use Rattle.lockstep_block.proofs.OwnRuns.{RunLaws, goods, numbers, phase-beside, so-far-behind, tells-goods, tried-behind}
 use Rattle.lockstep_block.proofs.Passed.{wide-at}
 
 pub record BlockLaws : Type 0 where
@@ -60,7 +71,6 @@ pub record BlockLaws : Type 0 where
   pub adds : ChangesAddUp
   pub causes : CausesAgree
   pub steps : StepsGoOn
-  pub counts : SlotStepsGoOn
 
 neither : (b c : Bool) → (b || c) ≡ false → (b ≡ false) × (c ≡ false)
 neither true c e = cc
@@ -91,9 +101,17 @@ raised-most : (count before : ℕ) → raised_by count before ≤ before + count
 raised-most zero before = omega arith
 raised-most (suc count) before = let rest : raised_by count before ≤ before + count = raised-most count before in omega (arith, rest)
 
--- a counter with so many ticks rose by no more than a number that became so much more
-pub ticks-told : (ticked ticks before now : ℕ) → now ≡ raised_by ticks before → RisesWithin ticked (ticked + ticks) before now
-ticks-told ticked ticks before now is = let most = raised-most ticks before in omega (arith, is, most)
+-- a counter ticked no more than steps were kept
+pub ticks-told : (old new : List TriedStep) (before now : ℕ) → TicksTried old new before now → RisesWithin (length old) (length new) before now
+ticks-told old new before now of =
+    let most = raised-most (length of.more) before in
+    let ticks = of.ticks in
+    let all : length new ≡ length old + length of.more = ap length of.are ∙ length-append old of.more in
+    omega (arith, most, ticks, all)
+
+-- so many more steps were kept
+pub more-tried : (old new : List TriedStep) (before now : ℕ) → TicksTried old new before now → old ++ drop (length old) new ≡ new
+more-tried old new before now of = ap (λ l. old ++ drop (length old) l) of.are ∙ ap (λ l. old ++ l) (drop-append_seam old of.more) ∙ sym of.are
 
 -- the moment behind a block
 moment-behind : (design : FlatDesign) (plan : TestPlan) (place : Place) (block rest : List Event) (before behind : MomentKept) → IsShownAt design plan place before →
@@ -106,7 +124,7 @@ moment-behind design plan place block rest before behind first later from slot =
     omega (arith, here, there, all)
 
 module _ {design : FlatDesign} {plan : TestPlan} {fault : StuckAt} {from until : ℕ} {runner : Runner} {before behind : MomentKept} {counts : Counts} {notes : NotesKept} {own : LockstepCopy}
-    {spare ticked : ℕ} (of : MayRunOwn design plan fault from until runner before behind counts notes own spare ticked) where
+    {spare : ℕ} {tried : List TriedStep} {apart : List RunApart} (of : MayRunOwn design plan fault from until runner before behind counts notes own spare tried apart) where
   pub same-design : (machine_of runner).design ≡ design
   same-design = ap (λ (m : Machine). m.design) of.beside.runs.machine_is
 
@@ -181,37 +199,38 @@ module _ {design : FlatDesign} {plan : TestPlan} {fault : StuckAt} {from until :
         }
 
     -- the block that it took
-    pub ran-beside : WritesStay → (taken ticks : ℕ) (ran-runner : Runner) (told : BlockTold) →
+    pub ran-beside : WritesStay → (taken : ℕ) (ran-runner : Runner) (told : BlockTold) (runs : ℕ → List ProcessRun) (numbers : ℕ → ℕ) (phase : ℕ) (ended : List ℕ) (more : List TriedStep) →
         ((run : MayRun (acts_beside behind) own runner) →
-        RanBlock (faulty_machine (machine_of runner).design fault) (acts_beside behind) run.put.faulty (state_of runner) taken ticks ran-runner told) →
-        RanBlock (faulty_machine design fault) (acts_beside behind) of.goes.at.state (state_of runner) taken ticks ran-runner told
+        RanBlock (faulty_machine (machine_of runner).design fault) (acts_beside behind) run.put.faulty (state_of runner) runs numbers phase taken ran-runner told ended more) →
+        RanBlock (faulty_machine design fault) (acts_beside behind) of.goes.at.state (state_of runner) runs numbers phase taken ran-runner told ended more
     unfolding may-run
-    ran-beside writes taken ticks ran-runner told ran =
-        subst (λ (m : Machine). RanBlock (faulty_machine m.design fault) (acts_beside behind) of.goes.at.state (state_of runner) taken ticks ran-runner told) of.beside.runs.machine_is
-        (ran (may-run writes))
+    ran-beside writes taken ran-runner told runs numbers phase ended more ran =
+        subst (λ (m : Machine). RanBlock (faulty_machine m.design fault) (acts_beside behind) of.goes.at.state (state_of runner) runs numbers phase taken ran-runner told ended more)
+        of.beside.runs.machine_is (ran (may-run writes))
 
-    -- with the process steps of so much of it as it took, the number is one of a slot, and at most that of the faulty machine's slot
-    pub ticked-fits : WritesStay → SlotStepsGoOn → (ticks : ℕ) → ((run : MayRun (acts_beside behind) own runner) → StepsWithin (faulty_machine (machine_of runner).design fault) run.put.faulty spare ticks) →
-        (ticked + ticks ≤ most_steps + 1) × (ticked + ticks ≤ process_steps (slot_from (faulty_machine design fault) of.begins))
+    -- or the events of a block that was given up
+    pub within-beside : WritesStay → (runs : ℕ → List ProcessRun) (numbers : ℕ → ℕ) (phase : ℕ) (more : List TriedStep) →
+        ((run : MayRun (acts_beside behind) own runner) → StepsWithin (faulty_machine (machine_of runner).design fault) run.put.faulty runs numbers phase spare more) →
+        StepsWithin (faulty_machine design fault) of.goes.at.state runs numbers phase spare more
     unfolding may-run
-    ticked-fits writes law ticks ran =
-        let machine = faulty_machine design fault in
-        let at = of.goes.at in
-        let low = of.goes.ticks in
-        let stands = of.goes.going.stands in
-        let room = of.goes.going.room in
-        let within = subst (λ (m : Machine). StepsWithin (faulty_machine m.design fault) at.state spare ticks) of.beside.runs.machine_is (ran (may-run writes)) in
-        let few = within.few in
-        let are = within.ticked_are in
-        let so_far = law.counted machine at stands.lockstep.own_comes in
-        let some = steps-few within.events in
-        let most : steps_so_far at + event_steps within.events ≤ process_steps (slot_from machine at.begins) =
-        law.more machine within.events at stands.good_slot.rules stands.lockstep.own_comes within.in_order (omega (arith, room, few)) in (
-          omega (arith, so_far, some, low, room, few, are),
-          subst (λ (s : State). ticked + ticks ≤ process_steps (slot_from machine s)) stands.own_begins (omega (arith, most, low, are)),
-        )
+    within-beside writes runs numbers phase more within =
+        subst (λ (m : Machine). StepsWithin (faulty_machine m.design fault) of.goes.at.state runs numbers phase spare more) of.beside.runs.machine_is (within (may-run writes))
 
-  module _ (laws : BlockLaws) (taken ticks : ℕ) (ran-runner : Runner) (told : BlockTold) (ran : RanBlock (faulty_machine design fault) (acts_beside behind) of.goes.at.state (state_of runner) taken ticks ran-runner told) (new : LockstepCopy)
+    -- whatever the answer, the kept steps are own steps of the slot
+    pub tried-there : WritesStay → (run_laws : RunLaws) (kept : GoodPhase) (tried_new : List TriedStep) (before_ticks now : ℕ) → TicksTried tried tried_new before_ticks now →
+        IsGoodPhase design of.place before apart kept →
+        ((run : MayRun (acts_beside behind) own runner) (runs : ℕ → List ProcessRun) (numbers : ℕ → ℕ) → TellsBeside (machine_of runner) (state_of runner) runs numbers kept →
+        StepsWithin (faulty_machine (machine_of runner).design fault) run.put.faulty runs numbers kept.phase spare (drop (length tried) tried_new)) →
+        TriedInSlot design fault of.slot of.begins tried_new
+    tried-there writes run_laws kept tried_new before_ticks now ticks is within =
+        let steps = within-beside writes (goods of run_laws) (numbers of run_laws) kept.phase (drop (length tried) tried_new)
+        (λ run. within run (goods of run_laws) (numbers of run_laws) (tells-goods of run_laws kept is)) in
+        subst (TriedInSlot design fault of.slot of.begins) (more-tried tried tried_new before_ticks now ticks)
+        (tried-behind of run_laws kept steps.events (drop (length tried) tried_new) is steps.in_order steps.few steps.keeps)
+
+  module _ (laws : BlockLaws) (run_laws : RunLaws) (taken : ℕ) (ran-runner : Runner) (told : BlockTold) (kept_phase : GoodPhase) (ended : List ℕ) (more : List TriedStep)
+      (ran : RanBlock (faulty_machine design fault) (acts_beside behind) of.goes.at.state (state_of runner) (goods of run_laws) (numbers of run_laws) kept_phase.phase taken ran-runner told ended more)
+      (new : LockstepCopy)
       (compared : ComparesBeside (state_there (good_machine design) (behind_events of.block of.rest of.place)) (state_of ran-runner) behind told own new) where
     good-changes : ChangesOnly (with_all_nodes (parts_beside behind told)) (state_there (good_machine design) of.place)
         (happened (good_machine design) (state_there (good_machine design) of.place) of.block)
@@ -277,11 +296,13 @@ module _ {design : FlatDesign} {plan : TestPlan} {fault : StuckAt} {from until :
         (counted taken told.steps _ less spare ran.tells.count ran.steps_are spared))
 
     -- so the fault goes there, and its runner may become the good machine before the block
-    pub goes-there : PhasesFit → LockstepIsBeside → EventsTakeNoTime → (later : NotesKept) (less : ℕ) →
+    pub goes-there : PhasesFit → LockstepIsBeside → EventsTakeNoTime → (later : NotesKept) (less : ℕ) (tried_new : List TriedStep) (apart_new : List RunApart) (good_ended : List ℕ) →
+        IsGoodPhase design of.place before apart kept_phase → tried ++ more ≡ tried_new → good_ended ≡ enders_in (good_machine design) (state_there (good_machine design) of.place) of.block →
+        NotesEnded apart apart_new ended good_ended →
         IsGoing design plan fault of.slot of.begins from until behind.moment (behind_events of.block of.rest of.place) (after_events (faulty_machine design fault) ran.events of.goes.at)
         (of.goes.pairs ++ unlike_pair of.block ran.events ∷ []) later (kept_by new) less →
-        TookOwn design plan fault from until runner before behind counts notes own spare ticked of ran-runner before behind told later new less (ticked + ticks)
-    goes-there fit side times later less going =
+        TookOwn design plan fault from until runner before behind counts notes own spare tried apart of ran-runner before behind told later new less tried_new apart_new
+    goes-there fit side times later less tried_new apart_new good_ended is joined good_is noted going =
         let good = state_there (good_machine design) of.place in
         let next = state_there (good_machine design) (behind_events of.block of.rest of.place) in
         let next_is : next ≡ happened (good_machine design) good of.block = place-behind (good_machine design) of.place of.block of.rest in
@@ -292,8 +313,9 @@ module _ {design : FlatDesign} {plan : TestPlan} {fault : StuckAt} {from until :
             at = after_events (faulty_machine design fault) ran.events of.goes.at;
             pairs = of.goes.pairs ++ unlike_pair of.block ran.events ∷ [];
             going = going;
-            ticks =
-                (let all = laws.counts.events (faulty_machine design fault) ran.events of.goes.at in let low = of.goes.ticks in let are = ran.ticked_are in omega (arith, all, low, are));
+            so_far = subst (OwnSoFar (good_machine design) (faulty_machine design fault) (phases (good_machine design) of.slot) (after_events (faulty_machine design fault) ran.events of.goes.at)) joined
+                (so-far-behind of run_laws kept_phase ran.events more is ran.keeps);
+            beside = phase-beside of run_laws ran.events ran.block ended good_ended ran.ended_are good_is apart_new noted;
           };
           back = record {
             design_is = ap (λ (m : Machine). m.design) ran.machine_is;

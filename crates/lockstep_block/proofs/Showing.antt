@@ -34,6 +34,10 @@ use Rattle.faulty_block.specs.moment_shown.Shown.{Shows, ShowsParts}
 use Rattle.faulty_block.specs.block_compare.Comparing.{Compares, HaveCodes, MayCompare, parts_both}
 use Rattle.faulty_block.specs.Back.{IsBackBut, MayPutBack}
 use Rattle.faulty_block.specs.Runs.{MayRun, RanBlock, acts_in}
+use Rattle.faulty_block.specs.block_runner.Beside.{TellsBeside}
+use Rattle.faulty_block.specs.block_runner.declared.beside.GoodPhase.{GoodPhase}
+use Rattle.v_design.specs.OwnSteps.{ProcessRun}
+use Rattle.good_runs.specs.declared.tried.TriedStep.{TriedStep}
 use Rattle.lockstep_block.specs.Beside.{ComparesBeside, MayCompareBeside, MayPutBackTo, acts_beside, parts_beside}
 use Rattle.std.proofs.lemmas.Bool.{cases_eq, eq-eqb, ne_eqb}
 use Rattle.graph_order.specs.ListLaws.{or-false}
@@ -115,13 +119,15 @@ module _ (behind : MomentKept) (block : ShownBlock) (changed : map object_number
     lane = λ process is. ap (λ (acts : ℕ → Bool). acts process) acts-same ∙ of.lane process is;
   }
 
-  pub ran-shown : (machine : Machine) (own : LockstepCopy) (runner ran : Runner) (ticked : ℕ) (told : BlockTold) (found : Option ℕ) →
-      IfSome found (λ taken. (of : MayRun (acts_in block) own runner) → RanBlock machine (acts_in block) of.put.faulty (state_of runner) taken ticked ran told) →
-      IfSome found (λ taken. (of : MayRun (acts_beside behind) own runner) → RanBlock machine (acts_beside behind) of.put.faulty (state_of runner) taken ticked ran told)
+  pub ran-shown : (machine : Machine) (own : LockstepCopy) (runner ran : Runner) (goods : GoodPhase) (phase : ℕ) (told : BlockTold) (ended : List ℕ) (more : List TriedStep) (found : Option ℕ) →
+      IfSome found (λ taken. (of : MayRun (acts_in block) own runner) (runs : ℕ → List ProcessRun) (numbers : ℕ → ℕ) → TellsBeside (machine_of runner) (state_of runner) runs numbers goods →
+      RanBlock machine (acts_in block) of.put.faulty (state_of runner) runs numbers phase taken ran told ended more) →
+      IfSome found (λ taken. (of : MayRun (acts_beside behind) own runner) (runs : ℕ → List ProcessRun) (numbers : ℕ → ℕ) → TellsBeside (machine_of runner) (state_of runner) runs numbers goods →
+      RanBlock machine (acts_beside behind) of.put.faulty (state_of runner) runs numbers phase taken ran told ended more)
   unfolding may-run-shown
-  ran-shown machine own runner ran ticked told None is = tt
-  ran-shown machine own runner ran ticked told (Some taken) is = λ of.
-      subst (λ (acts : ℕ → Bool). RanBlock machine acts of.put.faulty (state_of runner) taken ticked ran told) acts-same (is (may-run-shown own runner of))
+  ran-shown machine own runner ran goods phase told ended more None is = tt
+  ran-shown machine own runner ran goods phase told ended more (Some taken) is = λ of runs numbers tells.
+      subst (λ (acts : ℕ → Bool). RanBlock machine acts of.put.faulty (state_of runner) runs numbers phase taken ran told ended more) acts-same (is (may-run-shown own runner of) runs numbers tells)
 
   pub may-compare-shown : (design : FlatDesign) (machine : Machine) (counts : Counts) (good : ShownMoment) (codes : List Code) → design_of good.design.now ≡ design →
       ((state : State) → ShowsState design state behind → Shows good state) → AreCodesOf design codes → AreCounts design counts → MayCompareBeside design machine behind →

@@ -2,6 +2,7 @@ pub mod Rooms
 pub mod Blocks
 pub mod Beside
 pub mod Own
+pub mod Runs
 pub use Rattle.faulty_block.specs.lockstep_room as lockstep_room
 pub use Rattle.faulty_block.specs.lockstep_exchange as lockstep_exchange
 pub use Rattle.faulty_block.specs.copy_skip as copy_skip

@@ -1,15 +1,16 @@
 // What the good machine's moments show, and a block of the faulty machine's own beside them.
 
-ghost use Rattle.std.specs.Prelude.{◌≡◌, ◌≤◌, true, map, IfOk, IfSome, OnOk};
+ghost use Rattle.std.specs.Prelude.{◌≡◌, ◌≤◌, ℕ, List, true, drop, length, map, IfOk, IfSome, OnOk};
 ghost use Rattle.std.specs.Option.{option_map};
 ghost use Rattle.vf_base.specs.Base.{object_number, process_number};
 ghost use Rattle.v_design.specs.Designs.{faulty_machine, good_machine};
+ghost use Rattle.v_design.specs.OwnSteps.{ProcessRun};
 ghost use Rattle.v_design.specs.Plain.{fault_of};
 ghost use Rattle.v_design.specs.PlainDesigns.{design_of};
 ghost use Rattle.v_design.specs.States.{State};
-ghost use Rattle.machine.specs.Ticks.{raised_by};
 ghost use Rattle.faulty_block.specs.block_events.Runners.{IsWhole, machine_of, state_of};
-ghost use Rattle.faulty_block.specs.Runs.{MayRun, RanBlock, StepsWithin};
+ghost use Rattle.faulty_block.specs.Runs.{MayRun, RanBlock, StepsWithin, TicksTried};
+ghost use Rattle.faulty_block.specs.block_runner.Beside.{MayGoBeside, TellsBeside};
 ghost use Rattle.good_moment.specs.moment_laws.Shown.{ShowsState};
 ghost use Rattle.faulty_block.specs.moment_shown.Shown.{Shows};
 ghost use Rattle.faulty_block.specs.lockstep_room.Rooms.{AreCounts};
@@ -17,10 +18,11 @@ ghost use Rattle.lockstep_block.specs.Beside.{ComparesBeside, MayCompareBeside, 
 
 use block_told::BlockTold;
 use faulty_block::{
-    Counts, FaultyRun, LockstepCopy, Runner, ShownBlock, ShownMoment, compare_block, put_back,
-    run_faulty,
+    Beside, Counts, GoodPhase, LockstepCopy, Runner, ShownBlock, ShownMoment, compare_block,
+    put_back, run_faulty,
 };
 use good_moment::GoodMoment;
+use good_runs::TriedStep;
 use good_trace::Setup;
 use lockstep_steps::Standing;
 use process_code::ProcState;
@@ -79,8 +81,8 @@ fn show_block<N: World>(moment: &GoodMoment<N>) -> ShownBlock<'_>
     }
 }
 
-/// The runner becomes the faulty machine of a fault with what is kept of it, and runs its next block, beside the good machine's block, which a moment passed last. It is given up where it
-/// takes more process and lane steps than so many; `told` tells it. `steps` ticks once for each process step that was taken.
+/// The runner becomes the faulty machine of a fault with what is kept of it, and runs its next block, beside the good machine's block, which a moment passed last, and its runs of the phase. It is
+/// given up where it takes more process and lane steps than so many; `told` tells it, and `beside` the processes whose runs ended in it. `steps` ticks once for each step that comes to `tried`.
 pub(crate) fn run_beside<N: World, L: Ledger>(
     runner: &mut Runner<'_>,
     told: &mut BlockTold,
@@ -88,21 +90,30 @@ pub(crate) fn run_beside<N: World, L: Ledger>(
     own: &LockstepCopy,
     fault: Fault,
     most: u32,
+    goods: &GoodPhase<'_>,
+    beside: &mut Beside,
+    tried: &mut Vec<TriedStep>,
     steps: &mut Steps<L>,
-) -> Result<FaultyRun, NoMemory>
+) -> Result<Option<u32>, NoMemory>
     requires whole { IsWhole runner.old }
     requires run { MayRun (acts_beside behind.now) own.now runner.old }
+    requires goods { MayGoBeside (machine_of runner.old) (state_of runner.old) goods.now }
     ensures whole { OnOk result (IsWhole runner.new) }
     ensures machine { OnOk result (machine_of runner.new ≡ faulty_machine (machine_of runner.old).design (fault_of fault)) }
-    ensures few { IfOk result (λ ran. IfSome ran.taken (λ taken. taken ≤ most)) }
-    ensures ran { IfOk result (λ ran. IfSome ran.taken (λ taken. (of : MayRun (acts_beside behind.now) own.now runner.old) →
-        RanBlock (faulty_machine (machine_of runner.old).design (fault_of fault)) (acts_beside behind.now) of.put.faulty (state_of runner.old) taken ran.ticked runner.new told.new)) }
-    ensures ticks { IfOk result (λ ran. steps.new ≡ raised_by ran.ticked steps.old) }
-    ensures most { IfOk result (λ ran. (of : MayRun (acts_beside behind.now) own.now runner.old) →
-        StepsWithin (faulty_machine (machine_of runner.old).design (fault_of fault)) of.put.faulty most ran.ticked) }
+    ensures few { IfOk result (λ ran. IfSome ran (λ taken. taken ≤ most)) }
+    ensures ran { IfOk result (λ ran. IfSome ran (λ taken. (of : MayRun (acts_beside behind.now) own.now runner.old) (runs : ℕ → List ProcessRun) (numbers : ℕ → ℕ) →
+        TellsBeside (machine_of runner.old) (state_of runner.old) runs numbers goods.now →
+        RanBlock (faulty_machine (machine_of runner.old).design (fault_of fault)) (acts_beside behind.now) of.put.faulty (state_of runner.old) runs numbers goods.phase taken runner.new told.new
+        (map process_number beside.new.ended.items) (drop (length tried.old.items) tried.new.items))) }
+    ensures ticks { OnOk result (TicksTried tried.old.items tried.new.items steps.old steps.new) }
+    ensures most { OnOk result ((of : MayRun (acts_beside behind.now) own.now runner.old) (runs : ℕ → List ProcessRun) (numbers : ℕ → ℕ) →
+        TellsBeside (machine_of runner.old) (state_of runner.old) runs numbers goods.now →
+        StepsWithin (faulty_machine (machine_of runner.old).design (fault_of fault)) of.put.faulty runs numbers goods.phase most (drop (length tried.old.items) tried.new.items)) }
 {
     let block = show_block(behind);
-    let ran = run_faulty(runner, told, own, fault, &block, most, steps)?;
+    let ran = run_faulty(
+        runner, told, own, fault, &block, most, goods, beside, tried, steps,
+    )?;
     Ok(ran)
 }
 

@@ -7,6 +7,8 @@
 #![tactic(auto)]
 
 mod beside;
+mod ended;
+mod goods;
 mod own;
 mod pass;
 mod room;
@@ -18,4 +20,5 @@ pub use lockstep_steps::steps_go_on;
 pub use own::run_own_block;
 pub use pass::{follow_block, stand_at};
 pub use room::{FaultInSlot, LockstepRoom};
-pub use slot_steps::slot_steps_go_on;
+pub use good_runs::TriedStep;
+pub use run_numbers::RunApart;

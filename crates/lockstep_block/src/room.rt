@@ -7,36 +7,41 @@ ghost use Rattle.faulty_block.specs.lockstep_room.Rooms.{AreCounts};
 ghost use Rattle.lockstep_block.specs.Rooms.{IsLockstepRoom};
 
 use block_told::BlockTold;
-use faulty_block::{Counts, LockstepCopy, Runner};
+use faulty_block::{Beside, Counts, LockstepCopy, Runner};
 use good_moment::GoodMoment;
+use good_runs::TriedStep;
 use good_trace::Setup;
 use lockstep_filter::FilterRoom;
 use net_state::NetState;
 use process_table::ProcessTable;
 use race_notes::RaceNotes;
+use run_numbers::RunApart;
 use std::alloc::Global;
 use v_design::{View, World};
 use vf_base::NoMemory;
 
-/// Room for the faults of a shard in lockstep: one runner, the good machine's state before a block and behind it, what a block tells, and room for the filter of a phase.
+/// Room for the faults of a shard in lockstep: one runner, the good machine's state before a block and behind it, what a block tells, the runs of a block beside the good machine's, and room for the
+/// filter of a phase.
 #[derive(Drop)]
 pub struct LockstepRoom<'d, N: World> {
     pub runner: Runner<'d>,
     pub before: GoodMoment<N>,
     pub behind: GoodMoment<N>,
     pub told: BlockTold,
+    pub beside: Beside,
     pub filter: FilterRoom<'d, N>,
     pub counts: Counts,
 }
 
-/// What goes on of one fault within a slot: what is kept of it, the notes of the phase's own blocks, how many process and lane steps own blocks may yet take, and how many process
-/// steps they took so far, each of which was ticked.
+/// What goes on of one fault within a slot: what is kept of it, the notes of the phase's own blocks, how many process and lane steps own blocks may yet take, the steps that the fault took
+/// itself so far, each of which was ticked, and the runs of the present phase that ended in its own blocks alone, or in the good machine's beside them.
 #[derive(Drop)]
 pub struct FaultInSlot {
     pub own: LockstepCopy,
     pub notes: RaceNotes,
     pub spare: u32,
-    pub ticked: u32,
+    pub tried: Vec<TriedStep>,
+    pub apart: Vec<RunApart>,
 }
 
 /// A runner that is the good machine of a setup's design.
@@ -88,6 +93,7 @@ impl<'d, N: World> LockstepRoom<'d, N> {
             before,
             behind,
             told: BlockTold::new(alloc),
+            beside: Beside::new(alloc),
             filter,
             counts,
         })

@@ -13,7 +13,7 @@ mod phase;
 
 pub use lockstep_turn::{
     FaultBeside, FaultInSlot, LockstepRoom, LockstepWindow, NextTouches, begin_slot, kept_ends,
-    lanes_tell_turns, slot_steps_go_on, slots_are_counted, stand_at, steps_go_on, take_turn,
+    lanes_tell_turns, own_steps_go_on, slots_are_counted, stand_at, steps_go_on, take_turn,
     turn_each,
 };
 pub use phase::all_through_phase;

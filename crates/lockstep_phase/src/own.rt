@@ -44,12 +44,12 @@ fn take_own<N: World, L: Ledger>(
     requires order { room.old.behind.moment ≤ end }
     requires end { end ≤ length (window_events N.design N.plan view.now.window.now.before view.now.window.now.through) }
     requires goes { each.old.goes ≡ true → MayRunOwn N.design N.plan (fault_of each.old.fault) view.now.window.now.before view.now.window.now.through room.old.runner room.old.before
-        room.old.behind room.old.counts each.old.one.notes each.old.one.own each.old.one.spare each.old.one.ticked }
+        room.old.behind room.old.counts each.old.one.notes each.old.one.own each.old.one.spare each.old.one.tried.items each.old.one.apart.items }
     ensures own { OnOk result (TakesOwn N.design N.plan view.now.window.now.before view.now.window.now.through view.now.blocks.now.moments end room.old.runner room.old.before room.old.behind
         room.old.counts each.old each.new) }
     ensures room { OnOk result (RoomWaits N.design N.plan time room.old.runner room.old.before room.old.behind room.old.counts room.new.runner room.new.before room.new.behind
         room.new.counts) }
-    ensures ticks { OnOk result (RisesWithin each.old.one.ticked each.new.one.ticked steps.old steps.new) }
+    ensures ticks { OnOk result (RisesWithin (length each.old.one.tried.items) (length each.new.one.tried.items) steps.old steps.new) }
 {
     let moment = room.before.moment();
     let until = each.until;
@@ -105,6 +105,7 @@ pub(crate) fn take_block<N: World, L: Ledger>(
     ensures ticks { OnOk result (RisesWithin (sum_by ticked_of faults.old.items) (sum_by ticked_of faults.new.items) steps.old steps.new) }
 {
     lockstep_turn::limits_tell();
+    lockstep_turn::own_steps_go_on();
     lockstep_turn::places_are_told();
     lockstep_turn::steps_go_on();
     phase_blocks::blocks_are_told();

@@ -47,6 +47,7 @@ fn go_further<N: World, L: Ledger>(
     ensures ticks { OnOk result (RisesWithin (sum_by ticked_of faults.old.items) (sum_by ticked_of faults.new.items) steps.old steps.new) }
 {
     lockstep_turn::limits_tell();
+    lockstep_turn::own_steps_go_on();
     lockstep_turn::places_are_told();
     lockstep_turn::steps_go_on();
     phase_blocks::blocks_are_told();
@@ -92,7 +93,7 @@ fn go_to_end<N: World, L: Ledger>(
 }
 
 /// Faults go through a phase beside one another, from the place at which the room stands at a time in steps. Of those that still go in lockstep then the phase has no race. The counter
-/// rises by no more than the process steps of the faults' own blocks. What `touches` knows of the window is used, and more is put to it.
+/// rises by no more than the process steps that the faults took themselves, which are put to `tried`. What `touches` knows of the window is used, and more is put to it.
 ///
 /// # Errors
 ///
@@ -124,7 +125,6 @@ pub fn all_through_phase<N: World, L: Ledger>(
 {
     lockstep_turn::places_are_told();
     lockstep_turn::steps_go_on();
-    lockstep_turn::slot_steps_go_on();
     view.blocks.stands();
     let slot = room.before.slot();
     let phase = room.before.phase();

@@ -18,6 +18,7 @@ use Rattle.lockstep_phase.specs.lockstep_block.declared.room.FaultInSlot.{FaultI
 use Rattle.lockstep_phase.specs.lockstep_copies.Copies.{IsCopyInLockstep, own_begins}
 use Rattle.lockstep_phase.specs.lockstep_slots.Places.{Place, first_place, steps_left}
 use Rattle.lockstep_phase.specs.lockstep_steps.Laws.{StepsGoOn}
+use Rattle.lockstep_phase.specs.beside_phases.Laws.{OwnStepsGoOn}
 use Rattle.lockstep_phase.specs.moment_laws.Shown.{MomentKept}
 use Rattle.moments_stand.specs.Standing.{MomentsStand}
 use Rattle.race_notes.specs.Notes.{HasNoNotes}
@@ -52,8 +53,8 @@ none-same (entry ∷ old) new none same = cc
 pub enters : SlotsAreCounted → (design : FlatDesign) (plan : TestPlan) (fault : StuckAt) (from until number first behind : ℕ) (copy : CopyKept) (one : FaultInSlot) → from + number < until →
     MayBeginSlot design plan fault (from + number) copy → first ≡ length (window_events design plan from (from + number)) →
     behind ≡ length (window_events design plan from (from + (number + 1))) → KeepsSame copy one.own.copy → one.own.lanes ≡ [] → HasNoNotes first one.notes →
-    one.spare + (behind - first) ≡ most_steps → one.ticked ≡ 0 → BeginsSlot design plan fault from until number one
-enters counted design plan fault from until number first behind copy one within of begins ends same empty none spare ticked =
+    one.spare + (behind - first) ≡ most_steps → one.tried.items ≡ [] → one.apart.items ≡ [] → BeginsSlot design plan fault from until number one
+enters counted design plan fault from until number first behind copy one within of begins ends same empty none spare tried apart =
     let next : from + (number + 1) ≡ suc (from + number) = omega arith in
     let more = counted.events design plan from (from + number) of.slot (omega arith) of.stands in
     let all : length (window_events design plan from (from + (number + 1))) ≡ length (window_events design plan from (suc (from + number))) =
@@ -74,7 +75,8 @@ enters counted design plan fault from until number first behind copy one within 
       lanes = empty;
       notes = subst (λ m. HasNoNotes m one.notes) begins none;
       spare = omega (arith, begins, ends, more, all, spare);
-      ticked = ticked;
+      untried = tried;
+      together = apart;
     }
 
 pub some-one : (one other : FaultInSlot) → Some one ≡ Some other → one ≡ other
@@ -129,10 +131,10 @@ module _ (design : FlatDesign) (plan : TestPlan) (from until number : ℕ) (runn
         omega (arith, own, few, all)
 
     -- so it goes in lockstep there
-    pub begins-slot : StepsGoOn → MomentsStand → plan.end ≤ MAX_END →
+    pub begins-slot : StepsGoOn → OwnStepsGoOn → MomentsStand → plan.end ≤ MAX_END →
         SlotGoesOn design plan fault of.may.slot (own_begins design plan fault of.may.time of.may.slot) from until number (first_place at.first at.later) runner before behind one.notes one.own
-        one.spare one.ticked
-    begins-slot steps moments early =
-        slot-begins steps design plan fault from until number one.own.copy at.first at.later one.notes one.own one.spare one.ticked of.may phases-are of.within
+        one.spare one.tried.items one.apart.items
+    begins-slot steps owns moments early =
+        slot-begins steps owns design plan fault from until number one.own.copy at.first at.later one.notes one.own one.spare one.tried.items one.apart.items of.may phases-are of.within
         (slot-early moments design plan (from + number) of.may.slot early of.may.stands) refl refl of.lanes runner before behind at.room moment-is
-        (subst (λ m. HasNoNotes m one.notes) (sym moment-is) of.notes) steps-spare of.ticked
+        (subst (λ m. HasNoNotes m one.notes) (sym moment-is) of.notes) steps-spare of.untried of.together

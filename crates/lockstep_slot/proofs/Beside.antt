@@ -12,7 +12,10 @@ use Rattle.copy_laws.specs.Windows.{good_slots}
 use Rattle.lockstep_phase.specs.copy_skip.Limits.{SiteIsThere}
 use Rattle.lockstep_phase.specs.lockstep_copies.Copies.{IsCopyInLockstep, own_begins}
 use Rattle.lockstep_phase.specs.lockstep_copy.Laws.{KeptEnds, LanesTellTurns}
-use Rattle.lockstep_phase.specs.phase_faults.Beside.{ComesThroughPhase, HasSite, MayGoOnIf, StaysBeside, slot_steps_of}
+use Rattle.lockstep_phase.specs.phase_faults.Beside.{ComesThroughPhase, HasSite, MayGoOnIf, StaysBeside}
+use Rattle.lockstep_phase.specs.lockstep_block.Blocks.{TriedInSlot}
+use Rattle.lockstep_phase.specs.beside_phases.Laws.{OwnStepsGoOn}
+use Rattle.lockstep_phase.specs.good_runs.declared.tried.TriedStep.{TriedStep}
 use Rattle.lockstep_phase.specs.phase_faults.declared.beside.FaultBeside.{FaultBeside}
 use Rattle.lockstep_phase.specs.lockstep_slots.Places.{Place, first_place, next_phase}
 use Rattle.lockstep_phase.specs.lockstep_steps.Laws.{StepsGoOn}
@@ -25,7 +28,7 @@ use Rattle.lockstep_phase.specs.slot_laws.Laws.{events_all}
 use Rattle.lockstep_phase.specs.slot_laws.Slots.{IsRoomAtSlot, IsRoomIn, PhaseIsThrough, SlotGoesOn, SlotMayGoOn, TurnsAll, further}
 use Rattle.lockstep_phase.proofs.slot_laws.Ends.{slot-through}
 use Rattle.lockstep_phase.proofs.slot_laws.Further.{further-all}
-use Rattle.lockstep_phase.proofs.slot_laws.Going.{are-processes}
+use Rattle.lockstep_phase.proofs.slot_laws.Going.{are-processes, tried-there}
 use Rattle.lockstep_phase.proofs.slot_laws.Turns.{turns-over}
 use Rattle.lockstep_slot.specs.Beside.{BeginsSlot, BeginsSlotIf, ComesThroughSlot, KeepsAscending, still_goes}
 use Rattle.lockstep_phase.specs.lockstep_turn.Turning.{MayTurnBeside, RoomMayTurn, RoomTurns, TurnsBeside}
@@ -37,18 +40,18 @@ pub record GoesBeside (design : FlatDesign) (plan : TestPlan) (from until number
   pub stays : StaysBeside old new
   pub on : new.goes ≡ true → (of : BeginsSlot design plan (fault_of old.fault) from until number old.one) →
       SlotGoesOn design plan (fault_of old.fault) of.may.slot (own_begins design plan (fault_of old.fault) of.may.time of.may.slot) from until number place runner before behind new.one.notes
-      new.one.own new.one.spare new.one.ticked
+      new.one.own new.one.spare new.one.tried.items new.one.apart.items
   pub most : old.goes ≡ true → (of : BeginsSlot design plan (fault_of old.fault) from until number old.one) →
-      new.one.ticked ≤ slot_steps_of design old.fault (own_begins design plan (fault_of old.fault) of.may.time of.may.slot)
+      TriedInSlot design (fault_of old.fault) of.may.slot (own_begins design plan (fault_of old.fault) of.may.time of.may.slot) new.one.tried.items
 
 -- and through the phase that it was in there
 pub record ThroughBeside (design : FlatDesign) (plan : TestPlan) (from until number : ℕ) (place : Place) (runner : Runner) (before behind : MomentKept) (old new : FaultBeside) : Type 0 where
   pub stays : StaysBeside old new
   pub through : new.goes ≡ true → (of : BeginsSlot design plan (fault_of old.fault) from until number old.one) →
       PhaseIsThrough design plan (fault_of old.fault) of.may.slot (own_begins design plan (fault_of old.fault) of.may.time of.may.slot) from until number place runner before behind new.one.notes
-      new.one.own new.one.spare new.one.ticked
+      new.one.own new.one.spare new.one.tried.items new.one.apart.items
   pub most : old.goes ≡ true → (of : BeginsSlot design plan (fault_of old.fault) from until number old.one) →
-      new.one.ticked ≤ slot_steps_of design old.fault (own_begins design plan (fault_of old.fault) of.may.time of.may.slot)
+      TriedInSlot design (fault_of old.fault) of.may.slot (own_begins design plan (fault_of old.fault) of.may.time of.may.slot) new.one.tried.items
 
 -- What stays
 
@@ -76,7 +79,7 @@ turn-stays now good old new turns = record {
   fault = turns.fault;
   before = λ goes. sym turns.goes ∙ goes;
   rest = λ goes. (turns.turns goes).rest;
-  left = λ none. turns.ticked;
+  left = λ none. turns.tried;
 }
 
 pub site-stays : (design : FlatDesign) (old new : FaultBeside) → StaysBeside old new → HasSite design old → HasSite design new
@@ -86,38 +89,47 @@ site-stays design old new stays there = subst (λ (f : Fault). SiteIsThere desig
 
 module _ (design : FlatDesign) (plan : TestPlan) (from until number : ℕ) where
   -- at the slot's beginning
-  pub begins-beside : StepsGoOn → MomentsStand → plan.end ≤ MAX_END → (runner : Runner) (before behind : MomentKept) (at : IsRoomAtSlot design plan from until number runner before behind)
+  pub begins-beside : StepsGoOn → OwnStepsGoOn → MomentsStand → plan.end ≤ MAX_END → (runner : Runner) (before behind : MomentKept) (at : IsRoomAtSlot design plan from until number runner before behind)
       (each : FaultBeside) → GoesBeside design plan from until number (first_place at.first at.later) runner before behind each each
-  begins-beside steps moments early runner before behind at each = record {
+  begins-beside steps owns moments early runner before behind at each = record {
     stays = stays-same each;
-    on = λ goes of. begins-slot design plan from until number runner before behind at (fault_of each.fault) each.one of steps moments early;
-    most = λ went of. (let none = of.ticked in omega (arith, none));
+    on = λ goes of. begins-slot design plan from until number runner before behind at (fault_of each.fault) each.one of steps owns moments early;
+    most = λ went of.
+        tried-there design plan (fault_of each.fault) of.may.slot (own_begins design plan (fault_of each.fault) of.may.time of.may.slot) from until number (first_place at.first at.later) runner before
+        behind each.one.notes each.one.own each.one.spare each.one.tried.items each.one.apart.items
+        (begins-slot design plan from until number runner before behind at (fault_of each.fault) each.one of steps owns moments early);
   }
 
   module _ (now : ℕ) (time : (slot : FirstSlot) → slice_get (good_slots design plan) (from + number) ≡ Some slot → now ≡ slot.begins.time) (place : Place) where
     -- over a turn
-    pub turns-beside : StepsGoOn → PhasesFollow → LanesTellTurns → (next : Phase) (later : List Phase) → place.later ≡ next ∷ later → (runner : Runner) (before behind : MomentKept)
+    pub turns-beside : StepsGoOn → OwnStepsGoOn → PhasesFollow → LanesTellTurns → (next : Phase) (later : List Phase) → place.later ≡ next ∷ later → (runner : Runner) (before behind : MomentKept)
         (new_runner : Runner) (new_before new_behind : MomentKept) →
         RoomTurns design plan (further (length place.left) place) next later runner before behind new_runner new_before new_behind → (old mid new : FaultBeside) →
         ThroughBeside design plan from until number place runner before behind old mid → TurnsBeside now new_before mid new →
         GoesBeside design plan from until number (next_phase next later (further (length place.left) place)) new_runner new_before new_behind old new
-    turns-beside steps follow lanes next later follows runner before behind new_runner new_before new_behind room old mid new through turns = record {
+    turns-beside steps owns follow lanes next later follows runner before behind new_runner new_before new_behind room old mid new through turns = record {
       stays = stays-on old mid new through.stays (turn-stays now new_before mid new turns);
       on = λ still of.
           let begins = own_begins design plan (fault_of old.fault) of.may.time of.may.slot in
           let was = through.through (sym turns.goes ∙ still) of in
           let there = next_phase next later (further (length place.left) place) in
           subst
-          (λ n. SlotGoesOn design plan (fault_of old.fault) of.may.slot begins from until number there new_runner new_before new_behind new.one.notes new.one.own n new.one.ticked)
+          (λ n. SlotGoesOn design plan (fault_of old.fault) of.may.slot begins from until number there new_runner new_before new_behind new.one.notes new.one.own n new.one.tried.items
+          new.one.apart.items)
           (sym turns.spare)
           (subst
-          (λ n. SlotGoesOn design plan (fault_of old.fault) of.may.slot begins from until number there new_runner new_before new_behind new.one.notes new.one.own mid.one.spare n)
-          (sym turns.ticked)
-          (turns-over steps follow lanes design plan (fault_of old.fault) of.may.slot begins from until number (further (length place.left) place) runner before behind mid.one.notes
-          new.one.notes mid.one.own new.one.own mid.one.spare mid.one.ticked next later was.on (further-all place) follows was.clean
+          (λ (t : List TriedStep). SlotGoesOn design plan (fault_of old.fault) of.may.slot begins from until number there new_runner new_before new_behind new.one.notes new.one.own mid.one.spare t
+          new.one.apart.items)
+          (sym turns.tried)
+          (subst
+          (SlotGoesOn design plan (fault_of old.fault) of.may.slot begins from until number there new_runner new_before new_behind new.one.notes new.one.own mid.one.spare mid.one.tried.items)
+          (sym (turns.together still))
+          (turns-over steps owns follow lanes design plan (fault_of old.fault) of.may.slot begins from until number (further (length place.left) place) runner before behind mid.one.notes
+          new.one.notes mid.one.own new.one.own mid.one.spare mid.one.tried.items mid.one.apart.items next later was.on (further-all place) follows was.clean
           (subst (λ n. HasNoNotes n new.one.notes) room.before_turns.moment (turns.cleared still)) new_runner new_before new_behind room.whole room.machine_is room.state_is room.before_turns
-          room.behind_turns (subst (λ n. TurnsAll n new_before mid.one.own new.one.own) (time of.may.slot of.may.stands) (turns.turns still))));
-      most = λ went of. subst (λ n. n ≤ slot_steps_of design old.fault (own_begins design plan (fault_of old.fault) of.may.time of.may.slot)) (sym turns.ticked) (through.most went of);
+          room.behind_turns (subst (λ n. TurnsAll n new_before mid.one.own new.one.own) (time of.may.slot of.may.stands) (turns.turns still)))));
+      most = λ went of.
+          subst (TriedInSlot design (fault_of old.fault) of.may.slot (own_begins design plan (fault_of old.fault) of.may.time of.may.slot)) (sym turns.tried) (through.most went of);
     }
 
   module _ (place : Place) where
@@ -126,7 +138,7 @@ module _ (design : FlatDesign) (plan : TestPlan) (from until number : ℕ) where
         GoesBeside design plan from until number place runner before behind old new → MayGoOnIf design plan from until runner before behind new
     may-go-on runner before behind old new begins goes = λ still.
         let of = begins (goes.stays.before still) in
-        subst (λ (f : Fault). SlotMayGoOn design plan (fault_of f) from until runner before behind new.one.notes new.one.own new.one.spare new.one.ticked) (sym goes.stays.fault)
+        subst (λ (f : Fault). SlotMayGoOn design plan (fault_of f) from until runner before behind new.one.notes new.one.own new.one.spare new.one.tried.items new.one.apart.items) (sym goes.stays.fault)
         (record {
           number = number;
           slot = of.may.slot;
@@ -135,22 +147,22 @@ module _ (design : FlatDesign) (plan : TestPlan) (from until number : ℕ) where
           on = goes.on still of;
         })
 
-    -- through a phase the steps of its own blocks are at most those of its slot, as they were where it had left before
+    -- through a phase the steps that it took itself stay those of a moment of its slot, as they were where it had left before
     through-most : (runner : Runner) (before behind : MomentKept) (new_runner : Runner) (next later : MomentKept) (old mid new : FaultBeside) →
         GoesBeside design plan from until number place runner before behind old mid → ComesThroughPhase design plan from until runner before behind new_runner next later mid new →
         old.goes ≡ true → (of : BeginsSlot design plan (fault_of old.fault) from until number old.one) →
-        new.one.ticked ≤ slot_steps_of design old.fault (own_begins design plan (fault_of old.fault) of.may.time of.may.slot)
+        TriedInSlot design (fault_of old.fault) of.may.slot (own_begins design plan (fault_of old.fault) of.may.time of.may.slot) new.one.tried.items
     through-most runner before behind new_runner next later old mid new goes comes went of = go mid.goes refl
       where
-        go : (still : Bool) → mid.goes ≡ still → new.one.ticked ≤ slot_steps_of design old.fault (own_begins design plan (fault_of old.fault) of.may.time of.may.slot)
+        go : (still : Bool) → mid.goes ≡ still → TriedInSlot design (fault_of old.fault) of.may.slot (own_begins design plan (fault_of old.fault) of.may.time of.may.slot) new.one.tried.items
         go true is =
             let begins = own_begins design plan (fault_of old.fault) of.may.time of.may.slot in
-            subst (λ (f : Fault). new.one.ticked ≤ slot_steps_of design f begins) goes.stays.fault
+            subst (λ (f : Fault). TriedInSlot design (fault_of f) of.may.slot begins new.one.tried.items) goes.stays.fault
             (comes.most is number of.may.slot begins place
-            (subst (λ (f : Fault). SlotGoesOn design plan (fault_of f) of.may.slot begins from until number place runner before behind mid.one.notes mid.one.own mid.one.spare mid.one.ticked)
+            (subst (λ (f : Fault). SlotGoesOn design plan (fault_of f) of.may.slot begins from until number place runner before behind mid.one.notes mid.one.own mid.one.spare mid.one.tried.items mid.one.apart.items)
             (sym goes.stays.fault) (goes.on is of)))
         go false is =
-            subst (λ n. n ≤ slot_steps_of design old.fault (own_begins design plan (fault_of old.fault) of.may.time of.may.slot)) (sym (comes.stays.left is)) (goes.most went of)
+            subst (TriedInSlot design (fault_of old.fault) of.may.slot (own_begins design plan (fault_of old.fault) of.may.time of.may.slot)) (sym (comes.stays.left is)) (goes.most went of)
 
     pub goes-through : (runner : Runner) (before behind : MomentKept) (new_runner : Runner) (next later : MomentKept) (old mid new : FaultBeside) →
         GoesBeside design plan from until number place runner before behind old mid → ComesThroughPhase design plan from until runner before behind new_runner next later mid new →
@@ -161,10 +173,10 @@ module _ (design : FlatDesign) (plan : TestPlan) (from until number : ℕ) where
           let begins = own_begins design plan (fault_of old.fault) of.may.time of.may.slot in
           let on = goes.on (comes.stays.before still) of in
           subst
-          (λ (f : Fault). PhaseIsThrough design plan (fault_of f) of.may.slot begins from until number place new_runner next later new.one.notes new.one.own new.one.spare new.one.ticked)
+          (λ (f : Fault). PhaseIsThrough design plan (fault_of f) of.may.slot begins from until number place new_runner next later new.one.notes new.one.own new.one.spare new.one.tried.items new.one.apart.items)
           goes.stays.fault
           (comes.through still number of.may.slot begins place
-          (subst (λ (f : Fault). SlotGoesOn design plan (fault_of f) of.may.slot begins from until number place runner before behind mid.one.notes mid.one.own mid.one.spare mid.one.ticked)
+          (subst (λ (f : Fault). SlotGoesOn design plan (fault_of f) of.may.slot begins from until number place runner before behind mid.one.notes mid.one.own mid.one.spare mid.one.tried.items mid.one.apart.items)
           (sym goes.stays.fault) on));
       most = λ went of. through-most runner before behind new_runner next later old mid new goes comes went of;
     }
@@ -209,11 +221,11 @@ module _ (design : FlatDesign) (plan : TestPlan) (from until number : ℕ) where
             let of = begins (through.stays.before still) in
             let on = (through.through still of).on in
             are-processes design plan (fault_of old.fault) of.may.slot (own_begins design plan (fault_of old.fault) of.may.time of.may.slot) from until before.moment
-            (further (length place.left) place) before new.one.notes new.one.own new.one.spare new.one.ticked on.room.at.before_at on.goes
+            (further (length place.left) place) before new.one.notes new.one.own new.one.spare new.one.tried.items new.one.apart.items on.room.at.before_at on.goes
 
-        -- the steps of its own blocks are at most those of its slot
+        -- the steps that it took itself are those of a moment of its slot
         most-there : BeginsSlotIf design plan from until number old → old.goes ≡ true → (of : MayBeginSlot design plan (fault_of old.fault) (from + number) old.one.own.copy) →
-            new.one.ticked ≤ slot_steps_of design old.fault (own_begins design plan (fault_of old.fault) of.time of.slot)
+            TriedInSlot design (fault_of old.fault) of.slot (own_begins design plan (fault_of old.fault) of.time of.slot) new.one.tried.items
         most-there begins went of =
             let was = begins went in
             through.most went
@@ -224,7 +236,8 @@ module _ (design : FlatDesign) (plan : TestPlan) (from until number : ℕ) where
               notes = was.notes;
               spare =
                   subst (λ (s : FirstSlot). old.one.spare + events_all (phases (good_machine design) s) ≡ most_steps) (some-slot was.may.slot of.slot (sym was.may.stands ∙ of.stands)) was.spare;
-              ticked = was.ticked;
+              untried = was.untried;
+              together = was.together;
             })
 
         -- one that doesn't go left lockstep
@@ -232,20 +245,20 @@ module _ (design : FlatDesign) (plan : TestPlan) (from until number : ℕ) where
         leaves-slot begins none = record {
           stays = through.stays;
           through = λ still slot is. (let no : ⊥ = cc in absurd no);
-          most = most-there begins;
+          tried = most-there begins;
         }
 
         -- behind the last phase the slot is through
-        pub comes-behind : StepsGoOn → KeptEnds → place.later ≡ [] → BeginsSlotIf design plan from until number old → KeepsAscending new → ComesThroughSlot design plan (from + number) old new
-        comes-behind steps ends last begins up = record {
+        pub comes-behind : StepsGoOn → OwnStepsGoOn → KeptEnds → place.later ≡ [] → BeginsSlotIf design plan from until number old → KeepsAscending new → ComesThroughSlot design plan (from + number) old new
+        comes-behind steps owns ends last begins up = record {
           stays = through.stays;
           through = λ still slot is.
               let of = begins (through.stays.before still) in
               let was = through.through still of in
               subst (λ (s : FirstSlot). IsCopyInLockstep design plan (fault_of old.fault) (from + number) s.begins.time (lockstep_differences new.one.own.copy))
               (some-slot of.may.slot slot (sym of.may.stands ∙ is))
-              (slot-through steps design plan (fault_of old.fault) from until number old.one.own.copy place.phase place.later new.one.notes new.one.own new.one.spare new.one.ticked of.may ends
+              (slot-through steps owns design plan (fault_of old.fault) from until number old.one.own.copy place.phase place.later new.one.notes new.one.own new.one.spare new.one.tried.items new.one.apart.items of.may ends
               runner before behind
               (record { place = further (length place.left) place; on = was.on; through = further-all place; last = last; clean = was.clean }) up.values up.updates);
-          most = most-there begins;
+          tried = most-there begins;
         }

@@ -17,6 +17,7 @@ use Rattle.lockstep_phase.specs.phase_faults.Beside.{ComesThroughPhase, HasSite,
 use Rattle.lockstep_phase.specs.phase_faults.declared.beside.FaultBeside.{FaultBeside}
 use Rattle.lockstep_phase.specs.lockstep_slots.Places.{Place, first_place, next_phase}
 use Rattle.lockstep_phase.specs.lockstep_steps.Laws.{StepsGoOn}
+use Rattle.lockstep_phase.specs.beside_phases.Laws.{OwnStepsGoOn}
 use Rattle.lockstep_phase.specs.moment_laws.Shown.{MomentKept}
 use Rattle.moments_stand.specs.Standing.{MomentsStand}
 use Rattle.phase_order.specs.Order.{PhasesFollow}
@@ -59,7 +60,7 @@ ticked-same now good [] [] zip = refl
 ticked-same now good [] (y ∷ ys) zip = absurd zip
 ticked-same now good (x ∷ xs) [] zip = absurd zip
 ticked-same now good (x ∷ xs) (y ∷ ys) zip =
-    sum_by-cons ticked_of y ys ∙ (λ i. zip.0.ticked i + ticked-same now good xs ys zip.1 i) ∙ sym (sum_by-cons ticked_of x xs)
+    sum_by-cons ticked_of y ys ∙ (λ i. length (zip.0.tried i) + ticked-same now good xs ys zip.1 i) ∙ sym (sum_by-cons ticked_of x xs)
 
 -- So far
 
@@ -74,17 +75,17 @@ pub record HaveCome (design : FlatDesign) (plan : TestPlan) (from until number n
 
 module _ (design : FlatDesign) (plan : TestPlan) (from until number now count : ℕ) (old : List FaultBeside) (begins : AllHold (BeginsSlotIf design plan from until number) old) where
   -- the slot's beginning
-  pub first-come : StepsGoOn → MomentsStand → SlotsAreCounted → plan.end ≤ MAX_END → (runner : Runner) (before behind : MomentKept) →
+  pub first-come : StepsGoOn → OwnStepsGoOn → MomentsStand → SlotsAreCounted → plan.end ≤ MAX_END → (runner : Runner) (before behind : MomentKept) →
       IsRoomAtSlot design plan from until number runner before behind → before.time ≡ now → count ≡ length (window_phases design plan from (from + (number + 1))) →
       HaveCome design plan from until number now count old runner before behind old
-  first-come steps moments counted early runner before behind at time is = record {
+  first-come steps owns moments counted early runner before behind at time is = record {
     place = first_place at.first at.later;
     room = at.room;
     time_is = time;
     count_is = last-is design plan from until number runner before behind at counted count is;
     each =
         zip-same (GoesBeside design plan from until number (first_place at.first at.later) runner before behind) (BeginsSlotIf design plan from until number)
-        (λ x _. begins-beside design plan from until number steps moments early runner before behind at x) old begins;
+        (λ x _. begins-beside design plan from until number steps owns moments early runner before behind at x) old begins;
   }
 
   module _ (runner : Runner) (before behind : MomentKept) (faults : List FaultBeside) (come : HaveCome design plan from until number now count old runner before behind faults) where
@@ -129,13 +130,13 @@ module _ (design : FlatDesign) (plan : TestPlan) (from until number now count : 
           (none-passes still_goes mid none)
 
       -- behind the last phase those that go are through
-      pub all-behind : StepsGoOn → KeptEnds → count ≤ before.phase + 1 → AllHold KeepsAscending mid → AllZip (ComesThroughSlot design plan (from + number)) old mid
-      all-behind steps ends few up =
+      pub all-behind : StepsGoOn → OwnStepsGoOn → KeptEnds → count ≤ before.phase + 1 → AllHold KeepsAscending mid → AllZip (ComesThroughSlot design plan (from + number)) old mid
+      all-behind steps owns ends few up =
           let all = come.count_is in
           let last = none-later come.place.later (omega (arith, all, few)) in
           zip-pairs (ThroughBeside design plan from until number come.place through_runner through_before through_behind) (ComesThroughSlot design plan (from + number))
           (BeginsSlotIf design plan from until number) KeepsAscending
-          (λ x y through one rises. comes-behind design plan from until number come.place through_runner through_before through_behind x y through steps ends last one rises) old mid all-through
+          (λ x y through one rises. comes-behind design plan from until number come.place through_runner through_before through_behind x y through steps owns ends last one rises) old mid all-through
           begins up
 
       -- Where a turn comes
@@ -167,14 +168,14 @@ module _ (design : FlatDesign) (plan : TestPlan) (from until number now count : 
           pub next-phase-is : new_before.phase ≡ before.phase + 1
           next-phase-is = turned.before_turns.phase ∙ ap (λ n. n + 1) phase-same
 
-          pub next-come : StepsGoOn → PhasesFollow → LanesTellTurns → ((slot : FirstSlot) → slice_get (good_slots design plan) (from + number) ≡ Some slot → now ≡ slot.begins.time) →
+          pub next-come : StepsGoOn → OwnStepsGoOn → PhasesFollow → LanesTellTurns → ((slot : FirstSlot) → slice_get (good_slots design plan) (from + number) ≡ Some slot → now ≡ slot.begins.time) →
               (new : List FaultBeside) → AllZip (TurnsBeside now new_before) mid new → HaveCome design plan from until number now count old new_runner new_before new_behind new
-          next-come steps follow lanes time new turn =
+          next-come steps owns follow lanes time new turn =
               let there = next_phase next-is.next next-is.later (further (length come.place.left) come.place) in
               let each =
               zip-join (ThroughBeside design plan from until number come.place through_runner through_before through_behind) (TurnsBeside now new_before)
               (GoesBeside design plan from until number there new_runner new_before new_behind)
-              (λ x y z through one. turns-beside design plan from until number now time come.place steps follow lanes next-is.next next-is.later next-is.are through_runner through_before
+              (λ x y z through one. turns-beside design plan from until number now time come.place steps owns follow lanes next-is.next next-is.later next-is.are through_runner through_before
               through_behind new_runner new_before new_behind turned x y z through one) old mid new all-through turn in
               let found =
               some-passes (GoesBeside design plan from until number there new_runner new_before new_behind) (BeginsSlotIf design plan from until number) still_goes old new each begins

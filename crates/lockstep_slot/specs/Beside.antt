@@ -12,31 +12,33 @@ use Rattle.trace_window.specs.Moments.{window_events}
 use Rattle.lockstep_phase.specs.slot_laws.Copies.{MayBeginSlot, lockstep_differences}
 use Rattle.lockstep_phase.specs.slot_laws.Laws.{events_all}
 use Rattle.lockstep_phase.specs.lockstep_block.declared.room.FaultInSlot.{FaultInSlot}
-use Rattle.lockstep_phase.specs.phase_faults.Beside.{StaysBeside, slot_steps_of}
+use Rattle.lockstep_phase.specs.phase_faults.Beside.{StaysBeside}
+use Rattle.lockstep_phase.specs.lockstep_block.Blocks.{TriedInSlot}
 use Rattle.lockstep_phase.specs.phase_faults.declared.beside.FaultBeside.{FaultBeside}
 
 -- a fault may go through the slot of a number of a window: its copy may begin the slot, no update is in a lane, nothing is noted, with the slot's events the steps to spare are those of a slot,
--- and none was taken
+-- the fault took no step itself, and no run is apart
 pub record BeginsSlot (design : FlatDesign) (plan : TestPlan) (fault : StuckAt) (from until number : ℕ) (one : FaultInSlot) : Type 0 where
   pub within : from + number < until
   pub may : MayBeginSlot design plan fault (from + number) one.own.copy
   pub lanes : one.own.lanes ≡ []
   pub notes : HasNoNotes (length (window_events design plan from (from + number))) one.notes
   pub spare : one.spare + events_all (phases (good_machine design) may.slot) ≡ most_steps
-  pub ticked : one.ticked ≡ 0
+  pub untried : one.tried.items ≡ []
+  pub together : one.apart.items ≡ []
 
 -- of several faults each one that goes
 abbrev pub BeginsSlotIf : FlatDesign → TestPlan → ℕ → ℕ → ℕ → FaultBeside → Type 0
 BeginsSlotIf design plan from until number each = each.goes ≡ true → BeginsSlot design plan (fault_of each.fault) from until number each.one
 
--- a fault went through the slot of a number of the good first run: where it still goes, what is kept of it stands in lockstep behind the slot; where it went, its own blocks took at most the
--- process steps of the faulty machine's slot
+-- a fault went through the slot of a number of the good first run: where it still goes, what is kept of it stands in lockstep behind the slot; where it went, the steps that it took itself
+-- are those of some moment of the faulty machine's slot
 pub record ComesThroughSlot (design : FlatDesign) (plan : TestPlan) (number : ℕ) (old new : FaultBeside) : Type 0 where
   pub stays : StaysBeside old new
   pub through : new.goes ≡ true → (slot : FirstSlot) → slice_get (good_slots design plan) number ≡ Some slot →
       IsCopyInLockstep design plan (fault_of old.fault) number slot.begins.time (lockstep_differences new.one.own.copy)
-  pub most : old.goes ≡ true → (of : MayBeginSlot design plan (fault_of old.fault) number old.one.own.copy) →
-      new.one.ticked ≤ slot_steps_of design old.fault (own_begins design plan (fault_of old.fault) of.time of.slot)
+  pub tried : old.goes ≡ true → (of : MayBeginSlot design plan (fault_of old.fault) number old.one.own.copy) →
+      TriedInSlot design (fault_of old.fault) of.slot (own_begins design plan (fault_of old.fault) of.time of.slot) new.one.tried.items
 
 -- what is kept of a fault ascends, each object and process once
 pub record KeepsAscending (each : FaultBeside) : Type 0 where

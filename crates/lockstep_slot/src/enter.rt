@@ -50,7 +50,8 @@ pub fn enter_slot<N: World>(
         own,
         notes,
         spare,
-        ticked: 0,
+        tried: Vec::new(alloc),
+        apart: Vec::new(alloc),
     };
     Ok(Some(one))
 }
@@ -59,7 +60,7 @@ pub fn enter_slot<N: World>(
 pub fn rests(alloc: Global, fault: Fault, number: FaultId) -> FaultBeside
     ensures fault { result.fault ≡ fault }
     ensures rests { result.goes ≡ false }
-    ensures none { result.one.ticked ≡ 0 }
+    ensures none { result.one.tried.items ≡ [] }
 {
     FaultBeside {
         fault,
@@ -67,7 +68,8 @@ pub fn rests(alloc: Global, fault: Fault, number: FaultId) -> FaultBeside
             own: begin_slot(alloc, FaultCopy::new(alloc, number)),
             notes: RaceNotes::new(alloc),
             spare: 0,
-            ticked: 0,
+            tried: Vec::new(alloc),
+            apart: Vec::new(alloc),
         },
         until: 0,
         goes: false,

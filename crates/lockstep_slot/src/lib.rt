@@ -12,6 +12,6 @@ mod slot;
 
 pub use enter::{enter_slot, rests};
 pub use lockstep_phase::{
-    FaultBeside, FaultInSlot, LockstepRoom, LockstepWindow, NextTouches, slot_steps_go_on,
+    FaultBeside, FaultInSlot, LockstepRoom, LockstepWindow, NextTouches,
 };
 pub use slot::all_through_slot;

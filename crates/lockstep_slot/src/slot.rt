@@ -92,6 +92,7 @@ fn go_through_phases<N: World, L: Ledger>(
 {
     lockstep_phase::kept_ends();
     lockstep_phase::lanes_tell_turns();
+    lockstep_phase::own_steps_go_on();
     lockstep_phase::steps_go_on();
     moments_stand::moments_stand();
     phase_order::phases_follow();
@@ -111,7 +112,7 @@ fn go_through_phases<N: World, L: Ledger>(
 }
 
 /// Faults that entered a slot of a window go through it in lockstep with the good machine, side by side. Those of which a process does otherwise than the good machine's, or may
-/// race, leave it, and go no longer. The counter rises by at most the process steps of the faults' own blocks. What `touches` knows of the
+/// race, leave it, and go no longer. The counter rises by at most the process steps that the faults took themselves, which are put to `tried`. What `touches` knows of the
 /// window is used, and more is put to it.
 ///
 /// # Errors

@@ -16,3 +16,7 @@ pub use Rattle.phase_faults.specs.lockstep_slots as lockstep_slots
 pub use Rattle.phase_faults.specs.slot_steps as slot_steps
 pub use Rattle.phase_faults.specs.graded_steps as graded_steps
 pub use Rattle.phase_faults.specs.block_events as block_events
+pub use Rattle.phase_faults.specs.beside_phases as beside_phases
+pub use Rattle.phase_faults.specs.own_slots as own_slots
+pub use Rattle.phase_faults.specs.good_runs as good_runs
+pub use Rattle.phase_faults.specs.run_numbers as run_numbers

@@ -40,11 +40,12 @@ pub record RoomTurns (design : FlatDesign) (plan : TestPlan) (place : Place) (ne
 abbrev pub MayTurnBeside : FlatDesign → FaultBeside → Type 0
 MayTurnBeside design each = each.goes ≡ true → AreProcesses design each.one.own.copy.updates
 
--- a fault that still goes took it at a time, beside a moment of the good machine behind it: nothing is noted of it then
+-- a fault that still goes took it at a time, beside a moment of the good machine behind it: nothing is noted of it then, and no run is apart in the phase that begins
 pub record TurnsBeside (now : ℕ) (good : MomentKept) (old new : FaultBeside) : Type 0 where
   pub fault : new.fault ≡ old.fault
   pub goes : new.goes ≡ old.goes
   pub spare : new.one.spare ≡ old.one.spare
-  pub ticked : new.one.ticked ≡ old.one.ticked
+  pub tried : new.one.tried.items ≡ old.one.tried.items
   pub turns : new.goes ≡ true → TurnsAll now good old.one.own new.one.own
   pub cleared : new.goes ≡ true → HasNoNotes good.moment new.one.notes
+  pub together : new.goes ≡ true → new.one.apart.items ≡ []

@@ -81,7 +81,8 @@ pub fn take_turn<N: World>(
     Ok(())
 }
 
-/// Of a fault that still goes own updates turn, behind a turn that the good machine took at a time, in steps; and nothing is noted any more.
+/// Of a fault that still goes own updates turn, behind a turn that the good machine took at a time, in steps; and nothing is noted any more, nor is a run
+/// apart.
 fn turn_fault<N: World>(
     alloc: Global,
     setup: &Setup<'_, N>,
@@ -98,6 +99,7 @@ fn turn_fault<N: World>(
     }
     turn_all_writes(alloc, setup, good, &mut each.one.own, now)?;
     each.one.notes.clear(good.moment());
+    each.one.apart.clear();
     Ok(())
 }
 

@@ -1,6 +1,6 @@
 -- The event of the least node, lane or process leads to the next moment (IEEE 1364-2001, clause 5).
 use Rattle.std.proofs.Common.{◌≡◌, ℕ, ◌<◌, ◌≤◌, ◌^◌, List, length, refl, sym, ap, subst, ◌∙◌}
-use Rattle.std.specs.Prelude.{Some, None, IfSome, Bool, slice_get, true, false}
+use Rattle.std.specs.Prelude.{Option, Some, None, IfSome, Bool, slice_get, true, false}
 use Rattle.v_design.specs.PlainDesigns.{design_of}
 use Rattle.v_design.specs.WellFormed.{KeepsRules}
 use Rattle.v_design.specs.Designs.{FlatDesign, FlatNode, Machine}
@@ -19,7 +19,7 @@ use Rattle.net_state.specs.States.{values_in}
 use Rattle.process_table.specs.declared.table.ProcessTable.{ProcessTable}
 use Rattle.process_table.specs.declared.deed.Stepped.{Stepped}
 use Rattle.process_table.specs.Deeds.{IsStepOf, read_by}
-use Rattle.process_table.specs.Tables.{IsTableOf}
+use Rattle.process_table.specs.Tables.{IsTableOf, process_in}
 use Rattle.process_table.specs.Arranged.{IsKept, table_of}
 use Rattle.machine_events.specs.Parts.{Leads}
 use Rattle.machine_events.specs.StepDeeds.{IsStepped, FinishesStep}
@@ -28,8 +28,10 @@ use Rattle.machine_events.specs.PartLaws.{table-count}
 use Rattle.machine.specs.declared.parts.Machine.{Machine as Simulated}
 use Rattle.machine.specs.Standing.{machine_kept, state_kept, notes_runs}
 use Rattle.machine.specs.Moments.{IsAt, IsMoving, GoesOn}
-use Rattle.machine.specs.RunNotes.{NotesRun}
+use Rattle.machine.specs.RunNotes.{NotesRun, StandsBefore}
+use Rattle.process_code.specs.declared.state.ProcState.{ProcState}
 use Rattle.machine.proofs.Places.{placed}
+use Rattle.machine.proofs.Acts.{before-step}
 use Rattle.machine.proofs.Moved.{amid-at, moved-amid, graph-of, rules-of}
 
 -- the design of the machine at a moment keeps its rules
@@ -63,12 +65,15 @@ same-runs law machine before phase event old new noted notes quiet same are kept
     subst (RecordsRuns machine before (one_more event phase)) (sym same) (law machine before phase event old quiet (kept (sym are ∙ on)))
 
 -- a process step that is noted
-pub noted-step : (machine : Machine) (first : Turn) (at : Moment) (m : Simulated) (log : SlotLog) (number process : ℕ) (stepped : Stepped) (table : ProcessTable) (runs : RunRecord) →
-    IsAt machine first at m log →
-    number ≡ m.record.number → IsStepOf machine (state_in machine (present_phase at)) process stepped (table_of table) → NotesRun m.noting number process stepped table m.runs runs →
-    notes_runs m ≡ true → RecordsRuns machine at.ended (one_more (Step process) (present_phase at)) runs
-noted-step machine first at m log number process stepped table runs is numbered step notes on =
-    notes on machine at.ended (present_phase at) (is.runs on) step (numbered ∙ is.recorded.numbered)
+pub noted-step : (machine : Machine) (first : Turn) (at : Moment) (m : Simulated) (log : SlotLog) (number process : ℕ) (found : Option ProcState) (stepped : Stepped) (table : ProcessTable)
+    (runs : RunRecord) → IsAt machine first at m log → number ≡ m.record.number → IsStepOf machine (state_in machine (present_phase at)) process stepped (table_of table) →
+    (m.noting ≡ true → StandsBefore (table_of m.table).design process (process_in (table_of m.table) process).activity found) →
+    NotesRun number process found stepped (values_in m.nets) table m.runs runs → notes_runs m ≡ true → RecordsRuns machine at.ended (one_more (Step process) (present_phase at)) runs
+noted-step machine first at m log number process found stepped table runs is numbered step stands notes on =
+    let both = (amid-at machine first at m log is).both in
+    let state = state_in machine (present_phase at) in
+    notes machine at.ended (present_phase at) (is.runs on) (before-step machine state process (table_of m.table) found both.table_is (stands on)) (sym both.nets_are.values) step
+    (numbered ∙ is.recorded.numbered)
 
 -- The least ready process
 
@@ -117,6 +122,12 @@ writes-now : WritesStay → (m : Simulated) (moving : IsMoving m) → WritesAreO
 writes-now law m moving =
     subst (WritesAreOf (machine_kept m).design) (sym moving.is.comes.made_so_far) (law.after_moves (machine_kept m) moving.at.begins moving.is.comes.moves (rules-of m) moving.is.writes)
 
+-- the object that it read has a value
+pub read-there : (m : Simulated) (moving : IsMoving m) (stepped : Stepped) → IfSome (read_by stepped.act) (λ object. object < length (table_of m.table).design.objects) →
+    IfSome (read_by stepped.act) (λ object. object < length (values_in m.nets))
+read-there m moving stepped read =
+    subst (λ n. IfSome (read_by stepped.act) (λ object. object < n)) (ap (λ (d : FlatDesign). length d.objects) moving.is.parts.design ∙ sym moving.is.parts.values) read
+
 -- what a step of the least ready process did is to an object that has a value
 pub step-there : WritesStay → NextWritesAreOf → (m : Simulated) (moving : IsMoving m) (process : ℕ) (stepped : Stepped) (table : ProcessTable) → first_ready (state_kept m) ≡ Some process →
     ((machine : Machine) (state : State) → IsTableOf machine state (table_of m.table) → state.values ≡ values_in m.nets → IsStepOf machine state process stepped (table_of table)) →
@@ -127,7 +138,7 @@ step-there law next m moving process stepped table ready steps read =
     let step = stepped-at machine moving.first moving.at m moving.log process stepped table moving.is ready steps in
     let writes : WritesAreOf machine.design state = subst (WritesAreOf machine.design) moving.is.comes.happened_so_far (writes-now law m moving) in
     touches-there (length (values_in m.nets)) stepped.act (write_of (step_of machine state process).action)
-    (subst (λ n. IfSome (read_by stepped.act) (λ object. object < n)) (ap (λ (d : FlatDesign). length d.objects) moving.is.parts.design ∙ sym moving.is.parts.values) read) step.step.write
+    (read-there m moving stepped read) step.step.write
     (found-holds (IsOfObjects (length (values_in m.nets))) (write_of (step_of machine state process).action)
     (λ update e. subst (λ n. update.object < n) (sym moving.is.parts.values) (next.step machine state process update (rules-of m) writes e)))
 
@@ -139,19 +150,21 @@ lane-writes law next m moving process =
     (λ update e. subst (λ n. update.object < n) (sym moving.is.parts.values) (next.lane (machine_kept m).design (state_kept m) process update writes e))
 
 -- a step of the least ready process leads to the next moment
-pub step-moved : StepsGoOn → (old new : Simulated) (process number : ℕ) (stepped : Stepped) (table : ProcessTable) → NoNodeWorks (state_kept old) → first_lane (state_kept old) ≡ None →
+pub step-moved : StepsGoOn → (old new : Simulated) (process number : ℕ) (found : Option ProcState) (stepped : Stepped) (table : ProcessTable) → NoNodeWorks (state_kept old) → first_lane (state_kept old) ≡ None →
     first_ready (state_kept old) ≡ Some process →
     ((machine : Machine) (state : State) → IsTableOf machine state (table_of old.table) → state.values ≡ values_in old.nets → IsStepOf machine state process stepped (table_of table)) →
     FinishesStep process stepped old.nets new.nets table new.table old.record new.record → design_of new.graph.now.design.now ≡ design_of old.graph.now.design.now →
-    number ≡ old.record.number → NotesRun old.noting number process stepped table old.runs new.runs → notes_runs new ≡ notes_runs old →
+    number ≡ old.record.number →
+    (old.noting ≡ true → StandsBefore (table_of old.table).design process (process_in (table_of old.table) process).activity found) →
+    NotesRun number process found stepped (values_in old.nets) table old.runs new.runs → notes_runs new ≡ notes_runs old →
     GoesOn (λ machine at. after_event machine (Step process) at) old new
-step-moved law old new process number stepped table nodes lanes ready steps finishes graph numbered notes same = record {
+step-moved law old new process number found stepped table nodes lanes ready steps finishes graph numbered stands notes same = record {
   notes_are = same;
   leads = λ machine first at log is few.
       let step = stepped-at machine first at old log process stepped table is ready steps in
       moved-amid machine first (after_event machine (Step process) at) new log (step-comes law machine first at old log process is few nodes lanes ready)
       (finishes machine first at.ended (present_phase at) log step is.recorded) (graph ∙ graph-of machine first at old log is) is.in_time is.writes
-      (λ on. noted-step machine first at old log number process stepped table new.runs is numbered step.step notes (sym same ∙ on));
+      (λ on. noted-step machine first at old log number process found stepped table new.runs is numbered step.step stands notes (sym same ∙ on));
 }
 
 -- a step of the least lane leads to the next moment

@@ -11,3 +11,4 @@ pub mod Endings
 pub mod Started
 pub mod InRun
 pub mod PutLaws
+pub mod Acts

@@ -9,7 +9,7 @@ ghost use Rattle.machine.specs.Standing.{state_kept};
 ghost use Rattle.machine.specs.Moments.{IsMoving, GoesOn};
 
 use crate::parts::Machine;
-use crate::runs::note_run;
+use crate::runs::{note_run, state_before};
 use machine_events::{finish_step, step_lane};
 use std::sync::ledger::Ledger;
 use vf_base::{NoMemory, ProcId, Steps};
@@ -34,10 +34,12 @@ impl<'d> Machine<'d> {
     {
         machine_laws::slot_goes_on();
         race_laws::writes_stay();
+        let before = state_before(&self.table, self.noting, process)?;
         let stepped = self.table.step(process, &self.nets, steps)?;
         note_run(
             &mut self.runs,
-            self.noting,
+            before,
+            &self.nets,
             &self.table,
             self.record.number(),
             process,

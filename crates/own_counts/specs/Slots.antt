@@ -1,5 +1,5 @@
 -- Own steps of a slot so far, phase by phase, and how many runs of its present phase ended (slots and phases by IEEE 1364-2001, clause 5; steps by clause 9).
-use Rattle.std.specs.Prelude.{◌≡◌, ℕ, ◌+◌, ◌<◌, ◌≤◌, false, List, [], ◌++◌, length, Option, nat_eq, find, slice_get}
+use Rattle.std.specs.Prelude.{◌≡◌, ℕ, ◌+◌, ◌<◌, ◌≤◌, false, List, [], ◌∷◌, ◌++◌, length, Option, nat_eq, find, slice_get}
 use Rattle.v_design.specs.Designs.{Machine}
 use Rattle.v_design.specs.Grades.{Phase, phases}
 use Rattle.v_design.specs.OwnSteps.{good_runs, phase_beside, phases_if, process_runs, slot_beside, steps_in}

@@ -1,5 +1,5 @@
 -- A slot that is run again from its beginning, when some of its steps were taken before (slots and phases by IEEE 1364-2001, clause 5; steps by clause 9).
-use Rattle.std.specs.Prelude.{◌≡◌, ℕ, ◌+◌, ◌<◌, ◌≤◌, Bool, false, List, [], ◌∷◌, ◌++◌, drop, length, Option, Some, nat_eq, find, slice_get}
+use Rattle.std.specs.Prelude.{◌≡◌, ℕ, ◌+◌, ◌<◌, ◌≤◌, Bool, false, List, ◌∷◌, ◌++◌, drop, length, Option, Some, nat_eq, find, slice_get}
 use Rattle.vf_base.specs.Base.{process_number}
 use Rattle.vf_base.specs.Lists.{AllHold}
 use Rattle.v_design.specs.Designs.{Machine}

@@ -28,5 +28,5 @@ pub fn second_runs()
     copy_laws::own_runs();
     own_counts::own_steps_count();
     own_counts::own_steps_of_slots();
-    tried_steps_go_on();
+    machine_laws::slot_goes_on();
 }

@@ -6,6 +6,7 @@ use Rattle.v_design.specs.Designs.{FlatDesign, TestPlan}
 use Rattle.v_design.specs.Plain.{fault_of, site_of}
 use Rattle.v_design.specs.declared.plan.Fault.{Fault}
 use Rattle.slot_laws.specs.block_events.declared.runner.Runner.{Runner}
+use Rattle.slot_laws.specs.lockstep_block.Blocks.{TriedInSlot}
 use Rattle.slot_laws.specs.copy_skip.Limits.{SiteIsThere}
 use Rattle.slot_laws.specs.lockstep_room.declared.counts.Counts.{Counts}
 use Rattle.slot_laws.specs.lockstep_room.Rooms.{AreCounts}
@@ -15,7 +16,7 @@ use Rattle.slot_laws.specs.Slots.{HasComeOn, IsRoomIn, PhaseEndsAt, SlotGoesOn, 
 use Rattle.slot_laws.proofs.Further.{further-more, further-none}
 use Rattle.slot_laws.proofs.Phases.{come-ends, come-first, come-more}
 use Rattle.slot_laws.proofs.Rooms.{time-stays}
-use Rattle.phase_faults.specs.Beside.{FaultsMayGo, HasComeBeside, HasSite, HaveGoneOn, IsAheadIf, PhaseGoesOnIf, RoomHasCome, StaysBeside, slot_steps_of}
+use Rattle.phase_faults.specs.Beside.{FaultsMayGo, HasComeBeside, HasSite, HaveGoneOn, IsAheadIf, PhaseGoesOnIf, RoomHasCome, StaysBeside}
 use Rattle.phase_faults.specs.declared.beside.FaultBeside.{FaultBeside}
 use Rattle.phase_faults.proofs.Lists.{zip-holds, zip-join, zip-same}
 use Rattle.phase_faults.proofs.Moving.{stays-same}
@@ -58,7 +59,7 @@ module _ (design : FlatDesign) (plan : TestPlan) (from until : ℕ) (moments : L
         (λ each ahead. record {
           stays = stays-same each;
           come = λ goes number slot begins place on ends.
-              come-first design plan (fault_of each.fault) slot begins from until number place runner before behind each.one.notes each.one.own each.one.spare each.one.ticked on;
+              come-first design plan (fault_of each.fault) slot begins from until number place runner before behind each.one.notes each.one.own each.one.spare each.one.tried.items each.one.apart.items on;
           most = λ goes number slot begins place on ends low. low;
           ahead = ahead;
         })
@@ -83,10 +84,10 @@ module _ (design : FlatDesign) (plan : TestPlan) (from until : ℕ) (moments : L
             on =
                 subst
                 (λ (f : Fault). SlotGoesOn design plan (fault_of f) may.slot may.begins from until may.number (further come.count may.place) next_runner next later new.one.notes new.one.own
-                new.one.spare new.one.ticked) (sym has.stays.fault) come.on;
+                new.one.spare new.one.tried.items new.one.apart.items) (sym has.stays.fault) come.on;
           };
           ends =
-              come-ends design plan (fault_of old.fault) may.slot may.begins from until may.number may.place before.moment end next_runner next later new.one.notes new.one.own new.one.spare new.one.ticked come
+              come-ends design plan (fault_of old.fault) may.slot may.begins from until may.number may.place before.moment end next_runner next later new.one.notes new.one.own new.one.spare new.one.tried.items new.one.apart.items come
               on.ends;
         }
 
@@ -124,28 +125,28 @@ module _ (design : FlatDesign) (plan : TestPlan) (from until : ℕ) (moments : L
             let further_on =
             two.come goes number slot begins (further come.count place)
             (subst
-            (λ (f : Fault). SlotGoesOn design plan (fault_of f) slot begins from until number (further come.count place) next_runner next later each.one.notes each.one.own each.one.spare each.one.ticked)
+            (λ (f : Fault). SlotGoesOn design plan (fault_of f) slot begins from until number (further come.count place) next_runner next later each.one.notes each.one.own each.one.spare each.one.tried.items each.one.apart.items)
             (sym one.stays.fault) come.on)
-            (come-ends design plan (fault_of old.fault) slot begins from until number place before.moment end next_runner next later each.one.notes each.one.own each.one.spare each.one.ticked come ends) in
-            come-more design plan (fault_of old.fault) slot begins from until number place before.moment next_runner next later each.one.notes each.one.own each.one.spare each.one.ticked last_runner last
-            last_behind new.one.notes new.one.own new.one.spare new.one.ticked come
+            (come-ends design plan (fault_of old.fault) slot begins from until number place before.moment end next_runner next later each.one.notes each.one.own each.one.spare each.one.tried.items each.one.apart.items come ends) in
+            come-more design plan (fault_of old.fault) slot begins from until number place before.moment next_runner next later each.one.notes each.one.own each.one.spare each.one.tried.items each.one.apart.items last_runner last
+            last_behind new.one.notes new.one.own new.one.spare new.one.tried.items new.one.apart.items come
             (subst
             (λ (f : Fault). HasComeOn design plan (fault_of f) slot begins from until number (further come.count place) next.moment last_runner last last_behind new.one.notes new.one.own
-            new.one.spare new.one.ticked) one.stays.fault further_on);
+            new.one.spare new.one.tried.items new.one.apart.items) one.stays.fault further_on);
         most = λ goes number slot begins place goes_on ends low.
             let so_far = one.most goes number slot begins place goes_on ends low in
             elim (cases_Bool each.goes) [
               | inl there ↦
                   let come = one.come there number slot begins place goes_on ends in
-                  subst (λ (f : Fault). new.one.ticked ≤ slot_steps_of design f begins) one.stays.fault
+                  subst (λ (f : Fault). TriedInSlot design (fault_of f) slot begins new.one.tried.items) one.stays.fault
                   (two.most there number slot begins (further come.count place)
                   (subst
                   (λ (f : Fault). SlotGoesOn design plan (fault_of f) slot begins from until number (further come.count place) next_runner next later each.one.notes each.one.own each.one.spare
-                  each.one.ticked) (sym one.stays.fault) come.on)
-                  (come-ends design plan (fault_of old.fault) slot begins from until number place before.moment end next_runner next later each.one.notes each.one.own each.one.spare each.one.ticked
+                  each.one.tried.items each.one.apart.items) (sym one.stays.fault) come.on)
+                  (come-ends design plan (fault_of old.fault) slot begins from until number place before.moment end next_runner next later each.one.notes each.one.own each.one.spare each.one.tried.items each.one.apart.items
                   come ends)
-                  (subst (λ (f : Fault). each.one.ticked ≤ slot_steps_of design f begins) (sym one.stays.fault) so_far))
-              | inr stopped ↦ subst (λ n. n ≤ slot_steps_of design old.fault begins) (sym (two.stays.left stopped)) so_far
+                  (subst (λ (f : Fault). TriedInSlot design (fault_of f) slot begins each.one.tried.items) (sym one.stays.fault) so_far))
+              | inr stopped ↦ subst (TriedInSlot design (fault_of old.fault) slot begins) (sym (two.stays.left stopped)) so_far
             ];
         ahead = two.ahead;
       }

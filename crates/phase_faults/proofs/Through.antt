@@ -9,9 +9,9 @@ use Rattle.v_design.specs.Plain.{fault_of, site_of}
 use Rattle.v_design.specs.Runs.{FirstSlot}
 use Rattle.v_design.specs.States.{State}
 use Rattle.machine_laws.specs.SlotLoop.{slot_from}
-use Rattle.slot_laws.specs.machine.Ticks.{process_steps, steps_so_far}
 use Rattle.slot_laws.specs.block_events.declared.runner.Runner.{Runner}
 use Rattle.slot_laws.specs.copy_skip.Limits.{SiteIsThere}
+use Rattle.slot_laws.specs.lockstep_block.Blocks.{TriedInSlot}
 use Rattle.slot_laws.specs.lockstep_block.declared.room.FaultInSlot.{FaultInSlot}
 use Rattle.slot_laws.specs.lockstep_copy.declared.own.LockstepCopy.{LockstepCopy}
 use Rattle.slot_laws.specs.lockstep_filter.Phases.{IsPhaseNoted}
@@ -23,15 +23,14 @@ use Rattle.slot_laws.specs.lockstep_steps.Laws.{StepsGoOn}
 use Rattle.slot_laws.specs.moment_laws.Shown.{MomentKept}
 use Rattle.race_notes.specs.Notes.{NotesKept}
 use Rattle.slot_laws.specs.graded_steps.Behind.{RisesWithin}
-use Rattle.slot_laws.specs.slot_steps.Laws.{SlotStepsGoOn}
 use Rattle.window_blocks.specs.Kept.{AreBlocksOf, BlocksKept}
 use Rattle.slot_laws.specs.Slots.{IsRoomIn, PhaseEndsAt, SlotGoesOn, SlotMayGoOn, further}
 use Rattle.slot_laws.proofs.Further.{further-all}
-use Rattle.slot_laws.proofs.Going.{are-processes, are-there, clean, noted}
+use Rattle.slot_laws.proofs.Going.{are-processes, are-there, clean, noted, tried-there}
 use Rattle.slot_laws.proofs.Phases.{come-through}
 use Rattle.slot_laws.proofs.Rooms.{time-stays}
 use Rattle.slot_laws.proofs.Stops.{ends-there, phase-end, phase-there}
-use Rattle.phase_faults.specs.Beside.{AsksFilter, ComesThroughPhase, FaultsMayGo, HasComeBeside, HasSite, HaveGoneOn, IsAheadIf, IsRoomSomewhere, IsThereIf, LooksAhead, MayGoOnIf, PhaseGoesOnIf, slot_steps_of, ticked_of}
+use Rattle.phase_faults.specs.Beside.{AsksFilter, ComesThroughPhase, FaultsMayGo, HasComeBeside, HasSite, HaveGoneOn, IsAheadIf, IsRoomSomewhere, IsThereIf, LooksAhead, MayGoOnIf, PhaseGoesOnIf, ticked_of}
 use Rattle.phase_faults.specs.declared.beside.FaultBeside.{FaultBeside}
 use Rattle.phase_faults.proofs.Lists.{hold-map, sum-same, zip-holds, zip-join}
 
@@ -57,18 +56,6 @@ ticks-through design plan from until moments moment end faults looked gone asked
     let last : sum_by ticked_of asked ≡ sum_by ticked_of gone = sum-same ticked_of (AsksFilter design plan from until end) (λ old new is. ap ticked_of is.same) gone asked asks in
     omega (arith, first, last, rises)
 
--- own blocks took no more process steps than the slot has
-ticked-within : SlotStepsGoOn → (design : FlatDesign) (plan : TestPlan) (fault : StuckAt) (slot : FirstSlot) (begins : State) (from until number : ℕ) (place : Place) (runner : Runner)
-    (before behind : MomentKept) (notes : NotesKept) (own : LockstepCopy) (spare ticked : ℕ) →
-    SlotGoesOn design plan fault slot begins from until number place runner before behind notes own spare ticked → ticked ≤ process_steps (slot_from (faulty_machine design fault) begins)
-ticked-within counted design plan fault slot begins from until number place runner before behind notes own spare ticked on =
-    let stands = on.goes.going.stands in
-    let all : steps_so_far on.goes.at ≤ process_steps (slot_from (faulty_machine design fault) begins) =
-    subst (λ (s : State). steps_so_far on.goes.at ≤ process_steps (slot_from (faulty_machine design fault) s)) stands.own_begins
-    (counted.within (faulty_machine design fault) on.goes.at stands.lockstep.own_comes) in
-    let so_far = on.goes.ticks in
-    omega (arith, so_far, all)
-
 module _ (design : FlatDesign) (plan : TestPlan) (from until : ℕ) (moments : List ℕ) (end : ℕ) (runner : Runner) (before behind : MomentKept) where
   -- what is kept of a fault that may go on is there
   there-one : (each : FaultBeside) → MayGoOnIf design plan from until runner before behind each → IsThereIf design each
@@ -76,10 +63,10 @@ module _ (design : FlatDesign) (plan : TestPlan) (from until : ℕ) (moments : L
       let may = go goes in
       record {
         objects =
-            are-there design plan (fault_of each.fault) may.slot may.begins from until before.moment may.place before each.one.notes each.one.own each.one.spare each.one.ticked may.on.room.at.before_at
+            are-there design plan (fault_of each.fault) may.slot may.begins from until before.moment may.place before each.one.notes each.one.own each.one.spare each.one.tried.items each.one.apart.items may.on.room.at.before_at
             may.on.goes;
         processes =
-            are-processes design plan (fault_of each.fault) may.slot may.begins from until before.moment may.place before each.one.notes each.one.own each.one.spare each.one.ticked may.on.room.at.before_at
+            are-processes design plan (fault_of each.fault) may.slot may.begins from until before.moment may.place before each.one.notes each.one.own each.one.spare each.one.tried.items each.one.apart.items may.on.room.at.before_at
             may.on.goes;
       }
 
@@ -92,7 +79,7 @@ module _ (design : FlatDesign) (plan : TestPlan) (from until : ℕ) (moments : L
         PhaseGoesOnIf design plan from until end runner before behind new
     looked-one old new go looks = λ goes.
         let may =
-        subst (λ (e : FaultBeside). SlotMayGoOn design plan (fault_of e.fault) from until runner before behind e.one.notes e.one.own e.one.spare e.one.ticked) (sym looks.same)
+        subst (λ (e : FaultBeside). SlotMayGoOn design plan (fault_of e.fault) from until runner before behind e.one.notes e.one.own e.one.spare e.one.tried.items e.one.apart.items) (sym looks.same)
         (go (sym (ap (λ (e : FaultBeside). e.goes) looks.same) ∙ goes)) in
         record { may = may; ends = ends may.number may.place may.on.room }
 
@@ -118,7 +105,7 @@ module _ (design : FlatDesign) (plan : TestPlan) (from until : ℕ) (moments : L
 
     -- The end
 
-    module _ (next_runner : Runner) (next later : MomentKept) (steps : StepsGoOn) (counted : SlotStepsGoOn) (past : end ≤ next.moment) where
+    module _ (next_runner : Runner) (next later : MomentKept) (steps : StepsGoOn) (past : end ≤ next.moment) where
       -- it has come on from where it was before it looked ahead
       since-first : (old each new : FaultBeside) → LooksAhead design plan from until moments before.moment end old each →
           HasComeBeside design plan from until moments end runner before behind next_runner next later each new →
@@ -148,7 +135,7 @@ module _ (design : FlatDesign) (plan : TestPlan) (from until : ℕ) (moments : L
                     fault = ap (λ (o : FaultInSlot). o.own.copy.fault) one ∙ rest.fault;
                     states = ap (λ (o : FaultInSlot). o.own.copy.states) one ∙ rest.states;
                   };
-              left = λ gone. ap (λ (o : FaultInSlot). o.ticked) one ∙ has.stays.left gone;
+              left = λ gone. ap (λ (o : FaultInSlot). o.tried.items) one ∙ has.stays.left gone;
             };
             through = λ goes number slot begins place on.
                 let there = ends number place on.room in
@@ -158,13 +145,14 @@ module _ (design : FlatDesign) (plan : TestPlan) (from until : ℕ) (moments : L
                 let same : next.moment ≡ end = omega (arith, within, at, there, past) in
                 let last =
                 subst
-                (λ (o : FaultInSlot). SlotGoesOn design plan (fault_of old.fault) slot begins from until number (further (length place.left) place) next_runner next later o.notes o.own o.spare o.ticked)
+                (λ (o : FaultInSlot). SlotGoesOn design plan (fault_of old.fault) slot begins from until number (further (length place.left) place) next_runner next later o.notes o.own o.spare o.tried.items
+                o.apart.items)
                 (sym one)
-                (come-through design plan (fault_of old.fault) slot begins from until number place before.moment end next_runner next later each.one.notes each.one.own each.one.spare each.one.ticked come there
+                (come-through design plan (fault_of old.fault) slot begins from until number place before.moment end next_runner next later each.one.notes each.one.own each.one.spare each.one.tried.items each.one.apart.items come there
                 past) in
                 let all = further-all place in
                 let told =
-                noted design plan (fault_of old.fault) slot begins from until number (further (length place.left) place) next_runner next later new.one.notes new.one.own new.one.spare new.one.ticked last all in
+                noted design plan (fault_of old.fault) slot begins from until number (further (length place.left) place) next_runner next later new.one.notes new.one.own new.one.spare new.one.tried.items new.one.apart.items last all in
                 let free =
                 asks.free goes (fault_of old.fault) (further (length place.left) place) last.goes.at last.goes.pairs
                 (subst
@@ -172,13 +160,13 @@ module _ (design : FlatDesign) (plan : TestPlan) (from until : ℕ) (moments : L
                 record {
                   on = last;
                   clean =
-                      clean design plan (fault_of old.fault) slot begins from until number (further (length place.left) place) next_runner next later new.one.notes new.one.own new.one.spare new.one.ticked last
+                      clean design plan (fault_of old.fault) slot begins from until number (further (length place.left) place) next_runner next later new.one.notes new.one.own new.one.spare new.one.tried.items new.one.apart.items last
                       steps all free;
                 };
             most = λ goes number slot begins place on.
-                subst (λ (o : FaultInSlot). o.ticked ≤ slot_steps_of design old.fault begins) (sym one)
+                subst (λ (o : FaultInSlot). TriedInSlot design (fault_of old.fault) slot begins o.tried.items) (sym one)
                 (has.most goes number slot begins place on (ends number place on.room)
-                (ticked-within counted design plan (fault_of old.fault) slot begins from until number place runner before behind old.one.notes old.one.own old.one.spare old.one.ticked on));
+                (tried-there design plan (fault_of old.fault) slot begins from until number place runner before behind old.one.notes old.one.own old.one.spare old.one.tried.items old.one.apart.items on));
           }
 
       pub all-through : (counts counts_new : Counts) (faults looked gone asked : List FaultBeside) → AllZip (LooksAhead design plan from until moments before.moment end) faults looked →

@@ -16,6 +16,8 @@ use Rattle.slot_laws.specs.moment_laws.Shown.{MomentKept}
 use Rattle.race_notes.specs.Notes.{NotesKept}
 use Rattle.phase_faults.specs.Beside.{IsAheadIf, RoomWaits, TakesOwn}
 use Rattle.phase_faults.specs.declared.beside.FaultBeside.{FaultBeside}
+use Rattle.slot_laws.specs.good_runs.declared.tried.TriedStep.{TriedStep}
+use Rattle.slot_laws.specs.run_numbers.declared.numbers.RunApart.{RunApart}
 
 -- where its runner is at a place, a runner may come to stand there
 unfoldable pub may-stand-at : (design : FlatDesign) (plan : TestPlan) (time : ℕ) (place : Place) (runner : Runner) (before : MomentKept) → IsShownAt design plan place before → before.time ≡ time →
@@ -47,9 +49,9 @@ module _ (design : FlatDesign) (plan : TestPlan) (time : ℕ) (runner : Runner) 
 
   module _ (from until : ℕ) (now : before.time ≡ time) where
     -- a fault may still take a block of its own
-    unfoldable pub own-again : (fault : StuckAt) (notes : NotesKept) (own : LockstepCopy) (spare ticked : ℕ) → MayRunOwn design plan fault from until runner before behind counts notes own spare ticked →
-        MayRunOwn design plan fault from until waiting before_now behind_now counts_now notes own spare ticked
-    own-again fault notes own spare ticked of = record {
+    unfoldable pub own-again : (fault : StuckAt) (notes : NotesKept) (own : LockstepCopy) (spare : ℕ) (tried : List TriedStep) (apart : List RunApart) → MayRunOwn design plan fault from until runner before behind counts notes own spare tried apart →
+        MayRunOwn design plan fault from until waiting before_now behind_now counts_now notes own spare tried apart
+    own-again fault notes own spare tried apart of = record {
       slot = of.slot;
       begins = of.begins;
       place = of.place;
@@ -69,8 +71,12 @@ module _ (design : FlatDesign) (plan : TestPlan) (time : ℕ) (runner : Runner) 
           slot = ap (λ (m : MomentKept). m.slot) waits.behind_is ∙ of.beside.same.slot ∙ sym (ap (λ (m : MomentKept). m.slot) waits.before_is);
         };
       };
-      goes = subst (λ (m : MomentKept). FaultGoes design plan fault of.slot of.begins from until m.moment of.place notes own spare ticked) (sym waits.before_is) of.goes;
+      goes = subst (λ (m : MomentKept). FaultGoes design plan fault of.slot of.begins from until m.moment of.place notes own spare tried apart) (sym waits.before_is) of.goes;
       early = of.early;
+      within = record {
+        before_is = ap (λ (m : MomentKept). m.before) waits.before_is ∙ of.within.before_is;
+        through_is = ap (λ (m : MomentKept). m.through) waits.before_is ∙ of.within.through_is;
+      };
     }
 
     -- what one did since is what it did from the first on
@@ -82,12 +88,12 @@ module _ (design : FlatDesign) (plan : TestPlan) (time : ℕ) (runner : Runner) 
       late = λ late. takes.late (subst (λ (m : MomentKept). m.moment < old.until) (sym waits.before_is) late);
       took = λ here goes of.
           subst
-          (λ (m : MomentKept). FaultGoes design plan (fault_of old.fault) of.slot of.begins from until m.moment (behind_events of.block of.rest of.place) new.one.notes new.one.own new.one.spare new.one.ticked)
+          (λ (m : MomentKept). FaultGoes design plan (fault_of old.fault) of.slot of.begins from until m.moment (behind_events of.block of.rest of.place) new.one.notes new.one.own new.one.spare new.one.tried.items new.one.apart.items)
           waits.behind_is
-          (takes.took (subst (λ (m : MomentKept). old.until ≤ m.moment) (sym waits.before_is) here) goes (own-again (fault_of old.fault) old.one.notes old.one.own old.one.spare old.one.ticked of));
+          (takes.took (subst (λ (m : MomentKept). old.until ≤ m.moment) (sym waits.before_is) here) goes (own-again (fault_of old.fault) old.one.notes old.one.own old.one.spare old.one.tried.items old.one.apart.items of));
       most = λ here goes of.
           takes.most (subst (λ (m : MomentKept). old.until ≤ m.moment) (sym waits.before_is) here) goes
-          (own-again (fault_of old.fault) old.one.notes old.one.own old.one.spare old.one.ticked of);
+          (own-again (fault_of old.fault) old.one.notes old.one.own old.one.spare old.one.tried.items old.one.apart.items of);
       ahead = λ here.
           subst (λ (m : MomentKept). IsAheadIf design plan from until moments m.moment end new) waits.behind_is
           (takes.ahead (subst (λ (m : MomentKept). old.until ≤ m.moment) (sym waits.before_is) here));

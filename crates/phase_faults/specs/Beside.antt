@@ -2,19 +2,18 @@
 use Rattle.std.specs.Prelude.{◌≡◌, ℕ, ◌+◌, ◌<◌, ◌≤◌, List, length, true, false, if◌then◌else◌, min}
 use Rattle.std.specs.List.{AllZip}
 use Rattle.vf_base.specs.Lists.{AllHold}
-use Rattle.v_design.specs.Designs.{FlatDesign, StuckAt, TestPlan, faulty_machine}
+use Rattle.v_design.specs.Designs.{FlatDesign, StuckAt, TestPlan}
 use Rattle.v_design.specs.Plain.{fault_of, site_of}
 use Rattle.v_design.specs.Runs.{FirstSlot}
 use Rattle.v_design.specs.States.{State}
 use Rattle.v_design.specs.declared.plan.Fault.{Fault}
-use Rattle.machine_laws.specs.SlotLoop.{Moment, slot_from}
-use Rattle.slot_laws.specs.machine.Ticks.{process_steps}
+use Rattle.machine_laws.specs.SlotLoop.{Moment}
 use Rattle.trace_window.specs.Moments.{window_events}
 use Rattle.slot_laws.specs.block_events.declared.runner.Runner.{Runner}
 use Rattle.block_filter.specs.Blocks.{BlockPair}
 use Rattle.slot_laws.specs.block_skip.Blocks.{AreProcesses, LeftAlone}
 use Rattle.slot_laws.specs.copy_skip.Limits.{AreThere, SiteIsThere}
-use Rattle.slot_laws.specs.lockstep_block.Blocks.{FaultGoes}
+use Rattle.slot_laws.specs.lockstep_block.Blocks.{FaultGoes, TriedInSlot}
 use Rattle.slot_laws.specs.lockstep_block.Own.{MayRunOwn}
 use Rattle.slot_laws.specs.lockstep_block.Rooms.{IsRunnerAt}
 use Rattle.slot_laws.specs.lockstep_copy.declared.own.LockstepCopy.{LockstepCopy}
@@ -37,13 +36,9 @@ pub record IsRoomSomewhere (design : FlatDesign) (plan : TestPlan) (from until :
   pub place : Place
   pub room : IsRoomIn design plan from until number place runner before behind
 
--- the process steps that a fault's own blocks took in its slot so far
+-- how many process steps a fault took itself in its slot so far
 abbrev pub ticked_of : FaultBeside → ℕ
-ticked_of each = each.one.ticked
-
--- all process steps of the slot of a faulty machine that begins in a state
-abbrev pub slot_steps_of : FlatDesign → Fault → State → ℕ
-slot_steps_of design fault begins = process_steps (slot_from (faulty_machine design (fault_of fault)) begins)
+ticked_of each = length each.one.tried.items
 
 -- a fault's site is one of the design
 abbrev pub HasSite : FlatDesign → FaultBeside → Type 0
@@ -52,7 +47,7 @@ HasSite design each = SiteIsThere design (site_of each.fault.site)
 -- a fault that still goes may go on at the room's place
 abbrev pub MayGoOnIf : FlatDesign → TestPlan → ℕ → ℕ → Runner → MomentKept → MomentKept → FaultBeside → Type 0
 MayGoOnIf design plan from until runner before behind each =
-    each.goes ≡ true → SlotMayGoOn design plan (fault_of each.fault) from until runner before behind each.one.notes each.one.own each.one.spare each.one.ticked
+    each.goes ≡ true → SlotMayGoOn design plan (fault_of each.fault) from until runner before behind each.one.notes each.one.own each.one.spare each.one.tried.items each.one.apart.items
 
 -- what is kept of it is of objects and processes that are there
 pub record IsThere (design : FlatDesign) (own : LockstepCopy) : Type 0 where
@@ -62,23 +57,23 @@ pub record IsThere (design : FlatDesign) (own : LockstepCopy) : Type 0 where
 abbrev pub IsThereIf : FlatDesign → FaultBeside → Type 0
 IsThereIf design each = each.goes ≡ true → IsThere design each.one.own
 
--- of a fault that still goes the fault and what of its copy stays stay, and it went on before; one that didn't go takes no steps
+-- of a fault that still goes the fault and what of its copy stays stay, and it went on before; one that didn't go took no more steps
 pub record StaysBeside (old new : FaultBeside) : Type 0 where
   pub fault : new.fault ≡ old.fault
   pub before : new.goes ≡ true → old.goes ≡ true
   pub rest : new.goes ≡ true → KeepsRest old.one.own new.one.own
-  pub left : old.goes ≡ false → new.one.ticked ≡ old.one.ticked
+  pub left : old.goes ≡ false → new.one.tried.items ≡ old.one.tried.items
 
--- and it came to the phase's end, which has no race in the faulty machine; if not, its own blocks took no more process steps than its slot has either
+-- and it came to the phase's end, which has no race in the faulty machine; if not, the steps that it took itself are those of some moment of its slot
 pub record ComesThroughPhase (design : FlatDesign) (plan : TestPlan) (from until : ℕ) (runner : Runner) (before behind : MomentKept) (runner_new : Runner) (before_new behind_new : MomentKept)
     (old new : FaultBeside) : Type 0 where
   pub stays : StaysBeside old new
   pub through : new.goes ≡ true → (number : ℕ) (slot : FirstSlot) (begins : State) (place : Place) →
-      SlotGoesOn design plan (fault_of old.fault) slot begins from until number place runner before behind old.one.notes old.one.own old.one.spare old.one.ticked →
-      PhaseIsThrough design plan (fault_of old.fault) slot begins from until number place runner_new before_new behind_new new.one.notes new.one.own new.one.spare new.one.ticked
+      SlotGoesOn design plan (fault_of old.fault) slot begins from until number place runner before behind old.one.notes old.one.own old.one.spare old.one.tried.items old.one.apart.items →
+      PhaseIsThrough design plan (fault_of old.fault) slot begins from until number place runner_new before_new behind_new new.one.notes new.one.own new.one.spare new.one.tried.items new.one.apart.items
   pub most : old.goes ≡ true → (number : ℕ) (slot : FirstSlot) (begins : State) (place : Place) →
-      SlotGoesOn design plan (fault_of old.fault) slot begins from until number place runner before behind old.one.notes old.one.own old.one.spare old.one.ticked →
-      new.one.ticked ≤ slot_steps_of design old.fault begins
+      SlotGoesOn design plan (fault_of old.fault) slot begins from until number place runner before behind old.one.notes old.one.own old.one.spare old.one.tried.items old.one.apart.items →
+      TriedInSlot design (fault_of old.fault) slot begins new.one.tried.items
 
 -- Looking ahead
 
@@ -107,11 +102,11 @@ pub record TakesOwn (design : FlatDesign) (plan : TestPlan) (from until : ℕ) (
   pub stays : StaysBeside old new
   pub late : before.moment < old.until → new ≡ old
   pub took : old.until ≤ before.moment → new.goes ≡ true →
-      (of : MayRunOwn design plan (fault_of old.fault) from until runner before behind counts old.one.notes old.one.own old.one.spare old.one.ticked) →
-      FaultGoes design plan (fault_of old.fault) of.slot of.begins from until behind.moment (behind_events of.block of.rest of.place) new.one.notes new.one.own new.one.spare new.one.ticked
+      (of : MayRunOwn design plan (fault_of old.fault) from until runner before behind counts old.one.notes old.one.own old.one.spare old.one.tried.items old.one.apart.items) →
+      FaultGoes design plan (fault_of old.fault) of.slot of.begins from until behind.moment (behind_events of.block of.rest of.place) new.one.notes new.one.own new.one.spare new.one.tried.items new.one.apart.items
   pub most : old.until ≤ before.moment → old.goes ≡ true →
-      (of : MayRunOwn design plan (fault_of old.fault) from until runner before behind counts old.one.notes old.one.own old.one.spare old.one.ticked) →
-      new.one.ticked ≤ slot_steps_of design old.fault of.begins
+      (of : MayRunOwn design plan (fault_of old.fault) from until runner before behind counts old.one.notes old.one.own old.one.spare old.one.tried.items old.one.apart.items) →
+      TriedInSlot design (fault_of old.fault) of.slot of.begins new.one.tried.items
   pub ahead : old.until ≤ before.moment → IsAheadIf design plan from until moments behind.moment end new
 
 -- a room stays before a block: its runner is again wherever it was
@@ -126,7 +121,7 @@ pub record RoomWaits (design : FlatDesign) (plan : TestPlan) (time : ℕ) (runne
 
 -- a fault that still goes may go on at a place of the room in the phase that ends with a moment
 pub record PhaseGoesOn (design : FlatDesign) (plan : TestPlan) (from until end : ℕ) (runner : Runner) (before behind : MomentKept) (each : FaultBeside) : Type 0 where
-  pub may : SlotMayGoOn design plan (fault_of each.fault) from until runner before behind each.one.notes each.one.own each.one.spare each.one.ticked
+  pub may : SlotMayGoOn design plan (fault_of each.fault) from until runner before behind each.one.notes each.one.own each.one.spare each.one.tried.items each.one.apart.items
   pub ends : PhaseEndsAt before.moment may.place end
 
 abbrev pub PhaseGoesOnIf : FlatDesign → TestPlan → ℕ → ℕ → ℕ → Runner → MomentKept → MomentKept → FaultBeside → Type 0
@@ -155,11 +150,11 @@ pub record HasComeBeside (design : FlatDesign) (plan : TestPlan) (from until : �
     (before_new behind_new : MomentKept) (old new : FaultBeside) : Type 0 where
   pub stays : StaysBeside old new
   pub come : new.goes ≡ true → (number : ℕ) (slot : FirstSlot) (begins : State) (place : Place) →
-      SlotGoesOn design plan (fault_of old.fault) slot begins from until number place runner before behind old.one.notes old.one.own old.one.spare old.one.ticked → PhaseEndsAt before.moment place end →
-      HasComeOn design plan (fault_of old.fault) slot begins from until number place before.moment runner_new before_new behind_new new.one.notes new.one.own new.one.spare new.one.ticked
+      SlotGoesOn design plan (fault_of old.fault) slot begins from until number place runner before behind old.one.notes old.one.own old.one.spare old.one.tried.items old.one.apart.items → PhaseEndsAt before.moment place end →
+      HasComeOn design plan (fault_of old.fault) slot begins from until number place before.moment runner_new before_new behind_new new.one.notes new.one.own new.one.spare new.one.tried.items new.one.apart.items
   pub most : old.goes ≡ true → (number : ℕ) (slot : FirstSlot) (begins : State) (place : Place) →
-      SlotGoesOn design plan (fault_of old.fault) slot begins from until number place runner before behind old.one.notes old.one.own old.one.spare old.one.ticked →
-      PhaseEndsAt before.moment place end → old.one.ticked ≤ slot_steps_of design old.fault begins → new.one.ticked ≤ slot_steps_of design old.fault begins
+      SlotGoesOn design plan (fault_of old.fault) slot begins from until number place runner before behind old.one.notes old.one.own old.one.spare old.one.tried.items old.one.apart.items →
+      PhaseEndsAt before.moment place end → TriedInSlot design (fault_of old.fault) slot begins old.one.tried.items → TriedInSlot design (fault_of old.fault) slot begins new.one.tried.items
   pub ahead : IsAheadIf design plan from until moments before_new.moment end new
 
 -- room and faults have

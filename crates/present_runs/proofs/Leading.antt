@@ -32,7 +32,7 @@ from-ready a b final ready (step ∷ steps) leads still stays r = leads r
 steps-lead : (machine : Machine) (p : ℕ) (state : State) (events : List Event) → ready_after (is_ready (process_at state p).activity) (steps_in machine p state events) ≡ true →
     (process_at (happened machine state events) p).activity ≡ after_steps (process_at state p).activity (steps_in machine p state events)
 steps-lead machine p state [] r = refl
-steps-lead machine p state (event ∷ events) r = go (is_step_of p event) refl r
+steps-lead machine p state (event ∷ events) r = go (is_step_of p event) refl (steps-lead machine p (after machine state event) events) r
   where
     next : State
     next = after machine state event
@@ -40,15 +40,17 @@ steps-lead machine p state (event ∷ events) r = go (is_step_of p event) refl r
     seen : StepSeen
     seen = seen_step machine state p
 
-    go : (b : Bool) → is_step_of p event ≡ b → ready_after (is_ready (process_at state p).activity) (seen_if b ((process_at state p).activity, seen) (steps_in machine p next events)) ≡ true →
+    go : (b : Bool) → is_step_of p event ≡ b →
+        (ready_after (is_ready (process_at next p).activity) (steps_in machine p next events) ≡ true →
+        (process_at (happened machine next events) p).activity ≡ after_steps (process_at next p).activity (steps_in machine p next events)) →
+        ready_after (is_ready (process_at state p).activity) (seen_if b ((process_at state p).activity, seen) (steps_in machine p next events)) ≡ true →
         (process_at (happened machine next events) p).activity ≡ after_steps (process_at state p).activity (seen_if b ((process_at state p).activity, seen) (steps_in machine p next events))
-    go false h r =
+    go false h leads r =
         from-ready (process_at next p).activity (process_at state p).activity (process_at (happened machine next events) p).activity (is_ready (process_at state p).activity)
-        (steps_in machine p next events) (steps-lead machine p next events) (λ ready. stays-ready machine state p event h ready) (λ ready. ready) r
-    go true h r =
+        (steps_in machine p next events) leads (λ ready. stays-ready machine state p event h ready) (λ ready. ready) r
+    go true h leads r =
         from-ready (process_at next p).activity (activity_after seen) (process_at (happened machine next events) p).activity (is_ready seen.step.next) (steps_in machine p next events)
-        (steps-lead machine p next events)
-        (λ ready. ap (λ x. (process_at (after machine state x) p).activity) (is-the-step p event h) ∙ after-own machine state p ready)
+        leads (λ ready. ap (λ x. (process_at (after machine state x) p).activity) (is-the-step p event h) ∙ after-own machine state p ready)
         (λ ready. operand-ready (value_read state (step_of machine state p).action) (step_of machine state p).next ready) r
 
 -- Runs

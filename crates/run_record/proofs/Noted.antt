@@ -1,7 +1,7 @@
 -- Notes of process runs go on with the events of a slot (phases by IEEE 1364-2001, clause 5; processes by clause 9).
 use Rattle.std.proofs.Common.{◌≡◌, ℕ, zero, suc, ◌+◌, ◌<◌, List, [], ◌∷◌, ◌++◌, map, length, get_or, set, Bool, true, false, ◌&&◌, ◌⊎◌, inl, inr, refl, sym, ap, subst, ◌∙◌, append-nil}
 use Rattle.std.proofs.Common.{length-append, arith}
-use Rattle.std.specs.Prelude.{◌≢◌, Option, Some, cond, nat_eq, slice_get}
+use Rattle.std.specs.Prelude.{◌≢◌, Some, cond, nat_eq, slice_get}
 use Rattle.std.specs.List.{All}
 use Rattle.std.specs.Option.{option_to_list}
 use Rattle.std.proofs.lemmas.Bool.{eqb-true, eq-eqb}
@@ -11,10 +11,11 @@ use Rattle.std.proofs.lemmas.Option.{slice_get_within}
 use Rattle.vf_base.specs.Base.{process_number}
 use Rattle.v_design.specs.Designs.{FlatDesign, Machine}
 use Rattle.v_design.specs.Processes.{Action, ReadsObject, WritesObject, AppendsUpdate, TouchesNothing}
-use Rattle.v_design.specs.States.{Event, Step, LaneStep, Evaluation, NetUpdate, appended, write_of, step_of, is_ready}
+use Rattle.v_design.specs.States.{State, Event, Step, LaneStep, Evaluation, NetUpdate, appended, write_of, step_of, is_ready}
+use Rattle.v_design.specs.Runs.{Happens}
 use Rattle.v_design.specs.PhaseLogs.{is_step_of}
 use Rattle.v_design.specs.Grades.{Phase}
-use Rattle.v_design.specs.OwnSteps.{StepSeen, ProcessRun, seen_step, process_runs}
+use Rattle.v_design.specs.OwnSteps.{StepSeen, ProcessRun, is_process_step, seen_step, process_runs}
 use Rattle.process_code.specs.Points.{activity_of}
 use Rattle.process_code.specs.RunEnds.{StepsStandIn, act_by, act_of, step_told_by, told_by}
 use Rattle.process_code.specs.StatesOf.{IsStateOf}
@@ -28,7 +29,7 @@ use Rattle.slot_record.specs.SlotRecords.{one_more, state_in}
 use Rattle.run_ends.specs.RunEnds.{IsCodeAt, step_told, told_of, is_end_of, ends_of, ender_of, ender_if, ender_told, slot_enders}
 use Rattle.run_record.specs.Notes.{ended_runs, present_steps, present_told, SoFar, nothing_so_far, appends_told, writes_told, with_step, IsSoFar, StepSays, StandsAfter, IsNotedIn, AreNotes}
 use Rattle.run_record.specs.RunRecords.{runs_so_far, IsEndOf, EventsNoteNothing, NoneReady, PhasesNoteNothing, SlotsBeginNotes, SlotsEndNotes}
-use Rattle.run_record.proofs.Growing.{Laws, joined-last, told_after, GoesOn, goes-on, Ends, ends, all-ended, none-present, none-told, next_seen, own-step, phase-leads, other-step, ender, enders-phase, enders-event}
+use Rattle.run_record.proofs.Growing.{Laws, joined-last, told_after, GoesOn, goes-on, Ends, ends, all-ended, none-present, next_seen, own-step, phase-leads, other-step, ender, enders-phase, enders-event}
 
 -- Tests
 
@@ -112,10 +113,10 @@ step-said laws machine phase process step code at says =
 -- so the steps so far, with this one, have appended and written this, and tell this
 module _ (laws : Laws) (machine : Machine) (phase : Phase) (process : ℕ) (runs : List ProcessRun) (kept : SoFar) (step : StepTaken)
     (had : IsSoFar machine.design process phase.begins.time runs kept) (says : StepSays machine (state_in machine phase) process step) where
-  time : ℕ
+  abbrev time : ℕ
   time = phase.begins.time
 
-  seen : StepSeen
+  abbrev seen : StepSeen
   seen = seen_step machine (state_in machine phase) process
 
   later-more : (with_step step kept).later ≡ appended_by time (present_steps runs ++ seen ∷ [])
@@ -187,11 +188,22 @@ quiet-event laws machine before phase event present ended others none notes = re
   told_now = λ process code at. notes.told_now process code at ∙ ap (λ runs. map (told_of phase.begins.time) (ended_runs runs)) (sym (other-step laws machine process phase event (others process)));
 }
 
+-- it is no process's step, and ends no run
+never-own : (event : Event) → is_process_step (Happens event) ≡ false → (process : ℕ) → is_step_of process event ≡ false
+never-own (Step own) quiet process = cc
+never-own (LaneStep own) quiet process = refl
+never-own (Evaluation node) quiet process = refl
+never-own (NetUpdate node) quiet process = refl
+
+never-ends : (machine : Machine) (state : State) (event : Event) → is_process_step (Happens event) ≡ false → ender_of machine state event ≡ []
+never-ends machine state (Step own) quiet = cc
+never-ends machine state (LaneStep own) quiet = refl
+never-ends machine state (Evaluation node) quiet = refl
+never-ends machine state (NetUpdate node) quiet = refl
+
 pub events-note-nothing : Laws → EventsNoteNothing
-events-note-nothing laws machine before phase (Step process) kept quiet notes = cc
-events-note-nothing laws machine before phase (LaneStep process) kept quiet notes = quiet-event laws machine before phase (LaneStep process) (runs_so_far kept) kept.ended.items (λ p. refl) refl notes
-events-note-nothing laws machine before phase (Evaluation node) kept quiet notes = quiet-event laws machine before phase (Evaluation node) (runs_so_far kept) kept.ended.items (λ p. refl) refl notes
-events-note-nothing laws machine before phase (NetUpdate node) kept quiet notes = quiet-event laws machine before phase (NetUpdate node) (runs_so_far kept) kept.ended.items (λ p. refl) refl notes
+events-note-nothing laws machine before phase event kept quiet notes =
+    quiet-event laws machine before phase event (runs_so_far kept) kept.ended.items (never-own event quiet) (never-ends machine (state_in machine phase) event quiet) notes
 
 -- A process step
 
@@ -199,7 +211,7 @@ events-note-nothing laws machine before phase (NetUpdate node) kept quiet notes 
 module _ (laws : Laws) (machine : Machine) (before : List Phase) (phase : Phase) (process : ℕ) (present : List SoFar) (ended : List RunEnd) (there : process < length present)
     (notes : AreNotes machine before phase present ended) where
   -- what is kept of a process's present run with the step
-  KeptWith : List SoFar → ℕ → Type 0
+  abbrev KeptWith : List SoFar → ℕ → Type 0
   KeptWith runs any = IsSoFar machine.design any phase.begins.time (process_runs machine any (one_more (Step process) phase)) (get_or runs any nothing_so_far)
 
   -- the runs of another process stay
@@ -255,10 +267,10 @@ module _ (laws : Laws) (machine : Machine) (before : List Phase) (phase : Phase)
   module _ (step : StepTaken) (stands : ProcState) (run : RunEnd) (says : StepSays machine (state_in machine phase) process step)
       (stops : is_ready (step_of machine (state_in machine phase) process).next ≡ false) (after : StandsAfter machine (state_in machine phase) process stands)
       (end : IsEndOf (length before + 1) process stands (with_step step (get_or present process nothing_so_far)) run) where
-    runs : List ProcessRun
+    abbrev runs : List ProcessRun
     runs = process_runs machine process phase
 
-    old : SoFar
+    abbrev old : SoFar
     old = get_or present process nothing_so_far
 
     -- it tells of the run

@@ -46,7 +46,7 @@ fn make_room(ended: &mut Vec<RunEnd>, processes: usize) -> Result<(), NoMemory>
 }
 
 /// Empties a list, whose memory is used again, into one that takes just as much as it needs.
-fn take_list<T>(alloc: Global, list: &mut Vec<T>) -> Result<Seq<T>, NoMemory>
+fn take_list<T: Drop>(alloc: Global, list: &mut Vec<T>) -> Result<Seq<T>, NoMemory>
     ensures taken { IfOk result (λ taken. taken ≡ list.old.items) }
     ensures empty { OnOk result (list.new.items ≡ []) }
 {
@@ -135,11 +135,7 @@ fn no_runs(alloc: Global, processes: usize) -> Result<Vec<RunSoFar>, NoMemory>
 }
 
 /// The present run of a process goes on by a step.
-fn go_on_at(
-    runs: &mut Vec<RunSoFar>,
-    process: ProcId,
-    step: StepTaken,
-) -> Result<(), NoMemory>
+fn go_on_at(runs: &mut Vec<RunSoFar>, process: ProcId, step: StepTaken) -> Result<(), NoMemory>
     requires { process_number process < length runs.old.items }
     ensures { OnOk result (map so_far runs.new.items ≡ set (map so_far runs.old.items) (process_number process) (with_step step
         (get_or (map so_far runs.old.items) (process_number process) nothing_so_far))) }

@@ -26,6 +26,9 @@ use Rattle.lockstep_block.specs.lockstep_copy.declared.own.LockstepCopy.{Lockste
 use Rattle.lockstep_block.specs.lockstep_slots.Places.{Place, first_place, steps_left}
 use Rattle.lockstep_block.specs.lockstep_steps.Going.{IsGoing}
 use Rattle.lockstep_block.specs.lockstep_steps.Laws.{StepsGoOn}
+use Rattle.lockstep_block.specs.Blocks.{IsPhaseBeside}
+use Rattle.own_slots.specs.Slots.{OwnSoFar}
+use Rattle.beside_phases.specs.Laws.{OwnStepsGoOn}
 use Rattle.moments_stand.specs.Standing.{MomentsStand}
 use Rattle.phase_order.specs.Order.{phase_steps}
 use Rattle.race_notes.specs.Notes.{HasNoNotes, NotesKept}
@@ -33,6 +36,8 @@ use Rattle.trace_window.specs.Moments.{phase_seen, seen_from, slot_seen, slots_s
 use Rattle.slot_laws.specs.Copies.{MayBeginSlot, lockstep_differences}
 use Rattle.slot_laws.specs.Laws.{SlotsAreCounted, events_all}
 use Rattle.slot_laws.specs.Slots.{IsRoomIn, SlotGoesOn, SlotIsThrough}
+use Rattle.good_runs.specs.declared.tried.TriedStep.{TriedStep}
+use Rattle.run_numbers.specs.declared.numbers.RunApart.{RunApart}
 
 -- Steps
 
@@ -106,15 +111,29 @@ slot-early moments design plan number slot end here =
 
 -- The beginning
 
-module _ (steps : StepsGoOn) (design : FlatDesign) (plan : TestPlan) (fault : StuckAt) (from until number : ℕ) (copy : CopyKept) (phase : Phase) (later : List Phase) (notes : NotesKept)
-    (own : LockstepCopy) (spare ticked : ℕ) (of : MayBeginSlot design plan fault (from + number) copy) where
+module _ (steps : StepsGoOn) (owns : OwnStepsGoOn) (design : FlatDesign) (plan : TestPlan) (fault : StuckAt) (from until number : ℕ) (copy : CopyKept) (phase : Phase) (later : List Phase) (notes : NotesKept)
+    (own : LockstepCopy) (spare : ℕ) (tried : List TriedStep) (apart : List RunApart) (of : MayBeginSlot design plan fault (from + number) copy) where
   pub slot-begins : phases (good_machine design) of.slot ≡ phase ∷ later → from + number < until → of.slot.begins.time ≤ 2 ^ 63 → own.copy.values ≡ copy.values → own.copy.updates ≡ copy.updates → own.lanes ≡ [] → (runner : Runner) (before behind : MomentKept) →
       IsRoomIn design plan from until number (first_place phase later) runner before behind → before.moment ≡ length (window_events design plan from (from + number)) →
-      HasNoNotes before.moment notes → steps_left (first_place phase later) + spare ≤ most_steps → ticked ≡ 0 →
-      SlotGoesOn design plan fault of.slot (own_begins design plan fault of.time of.slot) from until number (first_place phase later) runner before behind notes own spare ticked
-  slot-begins are within early values updates empty runner before behind room moment none few begun =
+      HasNoNotes before.moment notes → steps_left (first_place phase later) + spare ≤ most_steps → tried ≡ [] → apart ≡ [] →
+      SlotGoesOn design plan fault of.slot (own_begins design plan fault of.time of.slot) from until number (first_place phase later) runner before behind notes own spare tried apart
+  slot-begins are within early values updates empty runner before behind room moment none few untried together =
       let at : before.moment ≡ length (window_events design plan from (suc of.before)) = moment ∙ ap (λ n. length (window_events design plan from n)) of.number_is in
       let here = of.number_is in
+      let begun =
+      subst
+      (λ (o : LockstepCopy). IsGoing design plan fault of.slot (own_begins design plan fault of.time of.slot) from until (length (window_events design plan from (suc of.before)))
+      (first_place phase later) (first_moment (own_begins design plan fault of.time of.slot)) [] notes (kept_by o) spare)
+      (λ i. record {
+        copy = record { fault = own.copy.fault; values = sym values i; states = own.copy.states; updates = sym updates i };
+        lanes = sym empty i;
+      })
+      (steps.begins design plan fault of.before of.time from until (lockstep_differences copy) of.slot phase later notes spare of.lockstep
+      (subst (λ n. slice_get (good_slots design plan) n ≡ Some of.slot) of.number_is of.stands) of.fine are (omega (arith, here)) (omega (arith, here, within))
+      (subst (λ m. HasNoNotes m notes) at none) few) in
+      let stands =
+      owns.begins design plan fault of.slot (own_begins design plan fault of.time of.slot) from until (length (window_events design plan from (suc of.before))) phase later [] notes (kept_by own)
+      spare are begun in
       record {
         early = early;
         room = room;
@@ -125,25 +144,20 @@ module _ (steps : StepsGoOn) (design : FlatDesign) (plan : TestPlan) (fault : St
           going =
               subst
               (λ m. IsGoing design plan fault of.slot (own_begins design plan fault of.time of.slot) from until m (first_place phase later)
-              (first_moment (own_begins design plan fault of.time of.slot)) [] notes (kept_by own) spare) (sym at)
-              (subst
-              (λ (o : LockstepCopy). IsGoing design plan fault of.slot (own_begins design plan fault of.time of.slot) from until (length (window_events design plan from (suc of.before)))
-              (first_place phase later) (first_moment (own_begins design plan fault of.time of.slot)) [] notes (kept_by o) spare)
-              (λ i. record {
-                copy = record { fault = own.copy.fault; values = sym values i; states = own.copy.states; updates = sym updates i };
-                lanes = sym empty i;
-              })
-              (steps.begins design plan fault of.before of.time from until (lockstep_differences copy) of.slot phase later notes spare of.lockstep
-              (subst (λ n. slice_get (good_slots design plan) n ≡ Some of.slot) of.number_is of.stands) of.fine are (omega (arith, here)) (omega (arith, here, within))
-              (subst (λ m. HasNoNotes m notes) at none) few));
-          ticks = omega (arith, begun);
+              (first_moment (own_begins design plan fault of.time of.slot)) [] notes (kept_by own) spare) (sym at) begun;
+          so_far =
+              subst
+              (OwnSoFar (good_machine design) (faulty_machine design fault) (phases (good_machine design) of.slot) (first_moment (own_begins design plan fault of.time of.slot))) (sym untried)
+              stands.so_far;
+          beside =
+              subst (IsPhaseBeside design fault (first_place phase later) (first_moment (own_begins design plan fault of.time of.slot))) (sym together) stands.beside;
         };
       }
 
   -- The end
 
   pub slot-ends : KeptEnds → (place : Place) (runner : Runner) (before behind : MomentKept)
-      (on : SlotGoesOn design plan fault of.slot (own_begins design plan fault of.time of.slot) from until number place runner before behind notes own spare ticked) → place.left ≡ [] → place.later ≡ [] →
+      (on : SlotGoesOn design plan fault of.slot (own_begins design plan fault of.time of.slot) from until number place runner before behind notes own spare tried apart) → place.left ≡ [] → place.later ≡ [] →
       phase_race (faulty_machine design fault) on.goes.at.phase_begins on.goes.at.events ≡ None → Ascend own.copy.values → Ascend own.copy.updates →
       IsCopyInLockstep design plan fault (from + number) of.slot.begins.time (lockstep_differences own.copy)
   slot-ends ends place runner before behind on through last clean values updates =
@@ -153,7 +167,7 @@ module _ (steps : StepsGoOn) (design : FlatDesign) (plan : TestPlan) (fault : St
 
   -- where it is through
   pub slot-through : KeptEnds → (runner : Runner) (before behind : MomentKept) →
-      SlotIsThrough design plan fault of.slot (own_begins design plan fault of.time of.slot) from until number runner before behind notes own spare ticked → Ascend own.copy.values →
+      SlotIsThrough design plan fault of.slot (own_begins design plan fault of.time of.slot) from until number runner before behind notes own spare tried apart → Ascend own.copy.values →
       Ascend own.copy.updates → IsCopyInLockstep design plan fault (from + number) of.slot.begins.time (lockstep_differences own.copy)
   slot-through ends runner before behind through values updates =
       slot-ends ends through.place runner before behind through.on through.through through.last through.clean values updates

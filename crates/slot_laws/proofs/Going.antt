@@ -1,5 +1,5 @@
 -- Both machines go over a stretch that leaves alone what is kept, through the end of a phase, and over a turn.
-use Rattle.std.proofs.Common.{◌≡◌, ℕ, ◌+◌, ◌<◌, ◌++◌, [], ◌∷◌, length, take, drop, true, refl, sym, ap, subst, ◌∙◌, arith}
+use Rattle.std.proofs.Common.{◌≡◌, ℕ, ◌+◌, ◌<◌, ◌++◌, List, [], ◌∷◌, length, take, drop, true, refl, sym, ap, subst, ◌∙◌, arith}
 use Rattle.std.specs.Prelude.{Option, Some, None, is_some}
 use Rattle.std.specs.Option.{option_map}
 use Rattle.std.proofs.lemmas.List.{length-take-le, take-append-drop}
@@ -15,7 +15,7 @@ use Rattle.copy_laws.specs.Differences.{own_of}
 use Rattle.lockstep_block.specs.copy_skip.Limits.{AreThere}
 use Rattle.lockstep_block.specs.moment_laws.Places.{IsShownAt}
 use Rattle.lockstep_block.specs.moment_laws.Shown.{MomentKept}
-use Rattle.lockstep_block.specs.Blocks.{FaultGoes}
+use Rattle.lockstep_block.specs.Blocks.{FaultGoes, TriedInSlot}
 use Rattle.lockstep_block.specs.lockstep_copy.Kept.{kept_by}
 use Rattle.lockstep_block.specs.lockstep_copy.declared.own.LockstepCopy.{LockstepCopy}
 use Rattle.lockstep_block.specs.lockstep_exchange.Exchange.{MakesLockstep}
@@ -27,11 +27,13 @@ use Rattle.lockstep_block.specs.lockstep_slots.Pairs.{LeavesNoConflict}
 use Rattle.lockstep_block.specs.lockstep_slots.Places.{Place, state_there}
 use Rattle.lockstep_block.specs.lockstep_steps.Going.{IsGoing}
 use Rattle.lockstep_block.specs.lockstep_steps.Laws.{StepsGoOn}
+use Rattle.beside_phases.specs.Laws.{OwnStepsGoOn}
 use Rattle.race_notes.specs.Notes.{NotesKept}
 use Rattle.trace_window.specs.Moments.{window_events}
 use Rattle.lockstep_block.specs.window_places.Windows.{TablesLeave}
 use Rattle.slot_laws.specs.Slots.{IsRoomIn, SlotGoesOn, StopsAt, further}
-use Rattle.slot_laws.proofs.Ticks.{events-on}
+use Rattle.good_runs.specs.declared.tried.TriedStep.{TriedStep}
+use Rattle.run_numbers.specs.declared.numbers.RunApart.{RunApart}
 
 there-of : {A : Type 0} (found : Option A) → is_some found ≡ true → (x : A) × (found ≡ Some x)
 there-of None e = cc
@@ -44,7 +46,7 @@ mapped-some f (Some x) = refl
 -- what is kept of a fault in lockstep is of objects and processes that are there
 
 module _ (design : FlatDesign) (plan : TestPlan) (fault : StuckAt) (slot : FirstSlot) (begins : State) (from until moment : ℕ) (place : Place) (kept : MomentKept) (notes : NotesKept)
-    (own : LockstepCopy) (spare ticked : ℕ) (shown : IsShownAt design plan place kept) (goes : FaultGoes design plan fault slot begins from until moment place notes own spare ticked) where
+    (own : LockstepCopy) (spare : ℕ) (tried : List TriedStep) (apart : List RunApart) (shown : IsShownAt design plan place kept) (goes : FaultGoes design plan fault slot begins from until moment place notes own spare tried apart) where
   makes : MakesLockstep own (state_there (good_machine design) place) goes.at.state
   makes = record { lockstep = goes.going.stands.lockstep.lockstep; nothing_same = goes.going.stands.nothing_same }
 
@@ -63,13 +65,13 @@ module _ (design : FlatDesign) (plan : TestPlan) (fault : StuckAt) (slot : First
       omega (arith, low, count)
 
 module _ (design : FlatDesign) (plan : TestPlan) (fault : StuckAt) (slot : FirstSlot) (begins : State) (from until number : ℕ) (place : Place) (runner : Runner) (before behind : MomentKept)
-    (notes : NotesKept) (own : LockstepCopy) (spare ticked : ℕ) (on : SlotGoesOn design plan fault slot begins from until number place runner before behind notes own spare ticked) where
+    (notes : NotesKept) (own : LockstepCopy) (spare : ℕ) (tried : List TriedStep) (apart : List RunApart) (on : SlotGoesOn design plan fault slot begins from until number place runner before behind notes own spare tried apart) where
   -- a stretch is passed over
-  pub passes-on : StepsGoOn → LimitsTell → (count : ℕ) (new_runner : Runner) (next later : MomentKept) → IsRoomIn design plan from until number (further count place) new_runner next later →
+  pub passes-on : StepsGoOn → OwnStepsGoOn → LimitsTell → (count : ℕ) (new_runner : Runner) (next later : MomentKept) → IsRoomIn design plan from until number (further count place) new_runner next later →
       next.moment ≡ before.moment + count → StopsAt design place before.moment next.moment count →
       LeftAlone design fault.site own.copy (window_events design plan from until) before.moment next.moment →
-      SlotGoesOn design plan fault slot begins from until number (further count place) new_runner next later notes own spare ticked
-  passes-on steps limits count new_runner next later room moment stops alone =
+      SlotGoesOn design plan fault slot begins from until number (further count place) new_runner next later notes own spare tried apart
+  passes-on steps owns limits count new_runner next later room moment stops alone =
       let going = on.goes.going in
       let events = take count place.left in
       let more = drop count place.left in
@@ -80,8 +82,15 @@ module _ (design : FlatDesign) (plan : TestPlan) (fault : StuckAt) (slot : First
       (record {
         values = λ object. refl;
         writes = λ process. mapped-some _ (own_of own.copy.updates process);
-      }) (are-there design plan fault slot begins from until before.moment place before notes own spare ticked on.room.at.before_at on.goes)
-      (are-processes design plan fault slot begins from until before.moment place before notes own spare ticked on.room.at.before_at on.goes) alone in
+      }) (are-there design plan fault slot begins from until before.moment place before notes own spare tried apart on.room.at.before_at on.goes)
+      (are-processes design plan fault slot begins from until before.moment place before notes own spare tried apart on.room.at.before_at on.goes) alone in
+      let parts = sym (take-append-drop count place.left) in
+      let leave = subst (λ m. TablesLeave design fault (kept_by own) (window_events design plan from until) before.moment m) moment_is tables in
+      let passed =
+      steps.passes design plan fault slot begins from until before.moment place on.goes.at on.goes.pairs notes (kept_by own) spare events more going parts stops.between leave in
+      let stands =
+      owns.passes design plan fault slot begins from until before.moment place on.goes.at on.goes.pairs (on.goes.pairs ++ Alike events ∷ []) notes (kept_by own) spare tried apart events more going
+      parts stops.between leave passed (record { so_far = on.goes.so_far; beside = on.goes.beside }) in
       record {
         early = on.early;
         room = room;
@@ -92,13 +101,15 @@ module _ (design : FlatDesign) (plan : TestPlan) (fault : StuckAt) (slot : First
           going =
               subst
               (λ m. IsGoing design plan fault slot begins from until m (further count place) (after_events (faulty_machine design fault) events on.goes.at) (on.goes.pairs ++ Alike events ∷ []) notes
-              (kept_by own) spare) (sym moment_is)
-              (steps.passes design plan fault slot begins from until before.moment place on.goes.at on.goes.pairs notes (kept_by own) spare events more going
-              (sym (take-append-drop count place.left)) stops.between (subst (λ m. TablesLeave design fault (kept_by own) (window_events design plan from until) before.moment m) moment_is tables));
-          ticks =
-              (let low = on.goes.ticks in let grows = events-on (faulty_machine design fault) events on.goes.at in omega (arith, low, grows));
+              (kept_by own) spare) (sym moment_is) passed;
+          so_far = stands.so_far;
+          beside = stands.beside;
         };
       }
+
+  -- the steps that it took itself are those of a moment of its slot
+  pub tried-there : TriedInSlot design fault slot begins tried
+  tried-there = record { to = on.goes.at; comes = on.goes.going.stands.lockstep.own_comes; begins_is = on.goes.going.stands.own_begins; own = on.goes.so_far }
 
   -- where the phase is through, and the notes leave no conflict, it has no race
   pub noted : place.left ≡ [] → IsPhaseNoted design plan fault from until before.moment place on.goes.at on.goes.pairs notes

@@ -1,4 +1,3 @@
-pub mod Ticks
 pub mod Blocks
 pub mod Rooms
 pub mod Further

@@ -23,6 +23,8 @@ use Rattle.lockstep_block.specs.window_places.Passing.{events_before}
 use Rattle.slot_laws.specs.Slots.{GoesFurther, GoesOverBlock, SlotGoesOn, further}
 use Rattle.slot_laws.proofs.Further.{further-behind, further-none}
 use Rattle.slot_laws.proofs.Rooms.{beside, goes-over, shows-whole}
+use Rattle.good_runs.specs.declared.tried.TriedStep.{TriedStep}
+use Rattle.run_numbers.specs.declared.numbers.RunApart.{RunApart}
 
 -- a block further on
 pub further-block : (place : Place) (block rest : List Event) → place.left ≡ block ++ rest → further (length block) place ≡ behind_events block rest place
@@ -48,9 +50,9 @@ moments-same design plan place one other first second from slot =
     second.moment_is ∙ (λ i. length (window_events design plan (from i) (from i + slot i)) + events_before place) ∙ sym first.moment_is
 
 module _ (design : FlatDesign) (plan : TestPlan) (fault : StuckAt) (slot : FirstSlot) (begins : State) (from until number : ℕ) (place : Place) (runner : Runner) (before behind later : MomentKept)
-    (notes : NotesKept) (own : LockstepCopy) (spare ticked : ℕ) (on : SlotGoesOn design plan fault slot begins from until number place runner before behind notes own spare ticked)
+    (notes : NotesKept) (own : LockstepCopy) (spare : ℕ) (tried : List TriedStep) (apart : List RunApart) (on : SlotGoesOn design plan fault slot begins from until number place runner before behind notes own spare tried apart)
     (ahead : PassesBlock design plan place behind later) where
-  unfoldable pub may-run-own : (counts : Counts) → AreCounts design counts → MayRunOwn design plan fault from until runner before later counts notes own spare ticked
+  unfoldable pub may-run-own : (counts : Counts) → AreCounts design counts → MayRunOwn design plan fault from until runner before later counts notes own spare tried apart
   may-run-own counts counted = record {
     slot = slot;
     begins = begins;
@@ -58,17 +60,18 @@ module _ (design : FlatDesign) (plan : TestPlan) (fault : StuckAt) (slot : First
     block = ahead.block;
     rest = ahead.rest;
     counts_are = counted;
+    within = record { before_is = on.room.from_is; through_is = on.room.until_is };
     beside = beside design plan from until number place runner before behind later on.room ahead;
     goes = on.goes;
     early = on.early;
   }
 
   -- behind both blocks the fault is that much further
-  pub goes-further : (new : Runner) (next : MomentKept) (notes_later : NotesKept) (own_later : LockstepCopy) (less next_ticked : ℕ)
+  pub goes-further : (new : Runner) (next : MomentKept) (notes_later : NotesKept) (own_later : LockstepCopy) (less : ℕ) (next_tried : List TriedStep) (next_apart : List RunApart)
       (over : GoesOverBlock design plan from until number place before.moment new next later) → over.block ≡ ahead.block → over.rest ≡ ahead.rest →
-      FaultGoes design plan fault slot begins from until later.moment (behind_events ahead.block ahead.rest place) notes_later own_later less next_ticked →
-      GoesFurther design plan fault slot begins from until number place before.moment new next later notes_later own_later less next_ticked
-  goes-further new next notes_later own_later less next_ticked over block_is rest_is goes =
+      FaultGoes design plan fault slot begins from until later.moment (behind_events ahead.block ahead.rest place) notes_later own_later less next_tried next_apart →
+      GoesFurther design plan fault slot begins from until number place before.moment new next later notes_later own_later less next_tried next_apart
+  goes-further new next notes_later own_later less next_tried next_apart over block_is rest_is goes =
       let there : further (length over.block) place ≡ behind_events over.block over.rest place = further-block place over.block over.rest over.parts in
       let all : length place.left ≡ length (over.block ++ over.rest) = ap length over.parts in
       let long = length-append over.block over.rest in
@@ -79,14 +82,14 @@ module _ (design : FlatDesign) (plan : TestPlan) (fault : StuckAt) (slot : First
         some = over.whole.some;
         within = omega (arith, all, long);
         moment_is = over.moment_is;
-        on = subst (λ (p : Place). SlotGoesOn design plan fault slot begins from until number p new next later notes_later own_later less next_ticked) (sym there)
+        on = subst (λ (p : Place). SlotGoesOn design plan fault slot begins from until number p new next later notes_later own_later less next_tried next_apart) (sym there)
             (record {
               early = on.early;
               room = over.room;
               waits = on.waits;
               goes =
-                  subst (λ m. FaultGoes design plan fault slot begins from until m (behind_events over.block over.rest place) notes_later own_later less next_ticked) (sym moment)
-                  (subst (λ (p : Place). FaultGoes design plan fault slot begins from until later.moment p notes_later own_later less next_ticked)
+                  subst (λ m. FaultGoes design plan fault slot begins from until m (behind_events over.block over.rest place) notes_later own_later less next_tried next_apart) (sym moment)
+                  (subst (λ (p : Place). FaultGoes design plan fault slot begins from until later.moment p notes_later own_later less next_tried next_apart)
                   (λ i. behind_events (sym block_is i) (sym rest_is i) place) goes);
             });
       }

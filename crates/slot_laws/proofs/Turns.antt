@@ -28,13 +28,15 @@ use Rattle.lockstep_block.proofs.lockstep_slots.Followed.{all-passed, followed}
 use Rattle.lockstep_block.proofs.lockstep_slots.Kept.{process-turned}
 use Rattle.lockstep_block.specs.lockstep_steps.Going.{IsGoing}
 use Rattle.lockstep_block.specs.lockstep_steps.Laws.{GoesOverTurn, StepsGoOn}
+use Rattle.beside_phases.specs.Laws.{OwnStepsGoOn}
 use Rattle.lockstep_block.proofs.lockstep_steps.Events.{TurnsTo, turns-to}
 use Rattle.moments_stand.specs.Standing.{AllMayStand}
 use Rattle.phase_blocks.proofs.Taken.{lane-none}
 use Rattle.phase_order.specs.Order.{PhasesFollow}
 use Rattle.race_notes.specs.Notes.{HasNoNotes, NotesKept}
 use Rattle.slot_laws.specs.Slots.{IsRoomIn, SlotGoesOn, TurnsAll, turned_beside}
-use Rattle.slot_laws.proofs.Ticks.{turn-on}
+use Rattle.good_runs.specs.declared.tried.TriedStep.{TriedStep}
+use Rattle.run_numbers.specs.declared.numbers.RunApart.{RunApart}
 
 -- Where no event is possible
 
@@ -158,9 +160,9 @@ module _ (follow : PhasesFollow) (design : FlatDesign) (plan : TestPlan) (from u
 
 -- Both machines
 
-module _ (steps : StepsGoOn) (follow : PhasesFollow) (lanes : LanesTellTurns) (design : FlatDesign) (plan : TestPlan) (fault : StuckAt) (slot : FirstSlot) (begins : State) (from until number : ℕ)
-    (place : Place) (runner : Runner) (before behind : MomentKept) (notes cleared : NotesKept) (own new : LockstepCopy) (spare ticked : ℕ) (next : Phase) (later : List Phase)
-    (on : SlotGoesOn design plan fault slot begins from until number place runner before behind notes own spare ticked) (through : place.left ≡ []) (follows : place.later ≡ next ∷ later)
+module _ (steps : StepsGoOn) (owns : OwnStepsGoOn) (follow : PhasesFollow) (lanes : LanesTellTurns) (design : FlatDesign) (plan : TestPlan) (fault : StuckAt) (slot : FirstSlot) (begins : State) (from until number : ℕ)
+    (place : Place) (runner : Runner) (before behind : MomentKept) (notes cleared : NotesKept) (own new : LockstepCopy) (spare : ℕ) (tried : List TriedStep) (apart : List RunApart) (next : Phase) (later : List Phase)
+    (on : SlotGoesOn design plan fault slot begins from until number place runner before behind notes own spare tried apart) (through : place.left ≡ []) (follows : place.later ≡ next ∷ later)
     (clean : phase_race (faulty_machine design fault) on.goes.at.phase_begins on.goes.at.events ≡ None) (none : HasNoNotes before.moment cleared) where
   over : GoesOverTurn design plan fault slot begins from until before.moment place on.goes.at cleared (kept_by own) spare next later
   over =
@@ -179,7 +181,7 @@ module _ (steps : StepsGoOn) (follow : PhasesFollow) (lanes : LanesTellTurns) (d
   pub turns-over : (new_runner : Runner) (new_before new_behind : MomentKept) → IsWhole new_runner → machine_of new_runner ≡ machine_of runner →
       state_of new_runner ≡ turned_by (turn_of (state_of runner)) (state_of runner) → TakesTurn design plan place next later before new_before →
       TakesTurn design plan place next later behind new_behind → TurnsAll slot.begins.time new_before own new →
-      SlotGoesOn design plan fault slot begins from until number (next_phase next later place) new_runner new_before new_behind cleared new spare ticked
+      SlotGoesOn design plan fault slot begins from until number (next_phase next later place) new_runner new_before new_behind cleared new spare tried []
   turns-over new_runner new_before new_behind whole machine state first second all =
       let good = state_there (good_machine design) place in
       let stands = on.goes.going.stands in
@@ -191,6 +193,9 @@ module _ (steps : StepsGoOn) (follow : PhasesFollow) (lanes : LanesTellTurns) (d
       let same =
       turned-is lanes slot.begins.time over.turn good new_before own new time due-alike (lane-empty good (idle-there follow (good_machine design) slot place stands.good_slot stands.place_is through))
       shown all in
+      let beside =
+      owns.turns design plan fault slot begins from until before.moment place on.goes.at [] cleared (turned_kept slot.begins.time over.turn (kept_by own)) spare tried apart next later over.turn
+      over.turn_is over.going (record { so_far = on.goes.so_far; beside = on.goes.beside }) in
       record {
         early = on.early;
         room =
@@ -204,6 +209,7 @@ module _ (steps : StepsGoOn) (follow : PhasesFollow) (lanes : LanesTellTurns) (d
               subst (λ m. IsGoing design plan fault slot begins from until m (next_phase next later place) (after_turn over.turn on.goes.at) [] cleared (kept_by new) spare) (sym first.moment)
               (subst (λ (kept : LockstepKept). IsGoing design plan fault slot begins from until before.moment (next_phase next later place) (after_turn over.turn on.goes.at) [] cleared kept spare)
               same over.going);
-          ticks = (let low = on.goes.ticks in let stays = turn-on over.turn on.goes.at in omega (arith, low, stays));
+          so_far = beside.so_far;
+          beside = beside.beside;
         };
       }

@@ -20,3 +20,7 @@ pub use Rattle.lockstep_block.specs.graded_steps as graded_steps
 pub use Rattle.lockstep_block.specs.machine as machine
 pub use Rattle.lockstep_block.specs.block_events as block_events
 pub use Rattle.lockstep_block.specs.window_wakes as window_wakes
+pub use Rattle.beside_phases.specs as beside_phases
+pub use Rattle.own_slots.specs as own_slots
+pub use Rattle.good_runs.specs as good_runs
+pub use Rattle.run_numbers.specs as run_numbers

@@ -24,6 +24,8 @@ use Rattle.window_blocks.specs.Kept.{BlocksKept}
 use Rattle.lockstep_block.specs.window_wakes.Wakes.{WakesKept}
 use Rattle.lockstep_block.specs.Blocks.{FaultGoes}
 use Rattle.lockstep_block.specs.Rooms.{IsRoomAt}
+use Rattle.good_runs.specs.declared.tried.TriedStep.{TriedStep}
+use Rattle.run_numbers.specs.declared.numbers.RunApart.{RunApart}
 
 -- a window of the good machine's trace, its blocks and its wakes are of the same slots
 pub record AreOfOneWindow (window : WindowKept) (blocks : BlocksKept) (wakes : WakesKept) : Type 0 where
@@ -84,20 +86,20 @@ pub record KeepsRest (old new : LockstepCopy) : Type 0 where
 
 -- in the slot of a number of a window, which begins early, a fault goes in lockstep, and room and fault are at one place; the faulty machine's processes wait on objects of their texts as its slot begins
 pub record SlotGoesOn (design : FlatDesign) (plan : TestPlan) (fault : StuckAt) (slot : FirstSlot) (begins : State) (from until number : ℕ) (place : Place) (runner : Runner)
-    (before behind : MomentKept) (notes : NotesKept) (own : LockstepCopy) (spare ticked : ℕ) : Type 0 where
+    (before behind : MomentKept) (notes : NotesKept) (own : LockstepCopy) (spare : ℕ) (tried : List TriedStep) (apart : List RunApart) : Type 0 where
   pub early : slot.begins.time ≤ 2 ^ 63
   pub room : IsRoomIn design plan from until number place runner before behind
   pub waits : WaitsAreOfBodies (faulty_machine design fault) begins
-  pub goes : FaultGoes design plan fault slot begins from until before.moment place notes own spare ticked
+  pub goes : FaultGoes design plan fault slot begins from until before.moment place notes own spare tried apart
 
 -- so it does at some place
 pub record SlotMayGoOn (design : FlatDesign) (plan : TestPlan) (fault : StuckAt) (from until : ℕ) (runner : Runner) (before behind : MomentKept) (notes : NotesKept) (own : LockstepCopy)
-    (spare ticked : ℕ) : Type 0 where
+    (spare : ℕ) (tried : List TriedStep) (apart : List RunApart) : Type 0 where
   pub number : ℕ
   pub slot : FirstSlot
   pub begins : State
   pub place : Place
-  pub on : SlotGoesOn design plan fault slot begins from until number place runner before behind notes own spare ticked
+  pub on : SlotGoesOn design plan fault slot begins from until number place runner before behind notes own spare tried apart
 
 -- its phase has an end, a moment
 abbrev pub PhaseEndsAt : ℕ → Place → ℕ → Type 0
@@ -111,32 +113,32 @@ pub record IsStop (moments : List ℕ) (moment end stop : ℕ) : Type 0 where
 
 -- it went on to a later moment of the phase
 pub record GoesFurther (design : FlatDesign) (plan : TestPlan) (fault : StuckAt) (slot : FirstSlot) (begins : State) (from until number : ℕ) (place : Place) (moment : ℕ) (runner : Runner)
-    (before behind : MomentKept) (notes : NotesKept) (own : LockstepCopy) (spare ticked : ℕ) : Type 0 where
+    (before behind : MomentKept) (notes : NotesKept) (own : LockstepCopy) (spare : ℕ) (tried : List TriedStep) (apart : List RunApart) : Type 0 where
   pub count : ℕ
   pub some : 0 < count
   pub within : count ≤ length place.left
   pub moment_is : before.moment ≡ moment + count
-  pub on : SlotGoesOn design plan fault slot begins from until number (further count place) runner before behind notes own spare ticked
+  pub on : SlotGoesOn design plan fault slot begins from until number (further count place) runner before behind notes own spare tried apart
 
 -- so far room and fault have come from a place and its moment
 pub record HasComeOn (design : FlatDesign) (plan : TestPlan) (fault : StuckAt) (slot : FirstSlot) (begins : State) (from until number : ℕ) (place : Place) (moment : ℕ) (runner : Runner)
-    (before behind : MomentKept) (notes : NotesKept) (own : LockstepCopy) (spare ticked : ℕ) : Type 0 where
+    (before behind : MomentKept) (notes : NotesKept) (own : LockstepCopy) (spare : ℕ) (tried : List TriedStep) (apart : List RunApart) : Type 0 where
   pub count : ℕ
   pub within : count ≤ length place.left
   pub moment_is : before.moment ≡ moment + count
-  pub on : SlotGoesOn design plan fault slot begins from until number (further count place) runner before behind notes own spare ticked
+  pub on : SlotGoesOn design plan fault slot begins from until number (further count place) runner before behind notes own spare tried apart
 
 -- it is at the end of a phase, which has no race in the faulty machine
 pub record PhaseIsThrough (design : FlatDesign) (plan : TestPlan) (fault : StuckAt) (slot : FirstSlot) (begins : State) (from until number : ℕ) (place : Place) (runner : Runner)
-    (before behind : MomentKept) (notes : NotesKept) (own : LockstepCopy) (spare ticked : ℕ) : Type 0 where
-  pub on : SlotGoesOn design plan fault slot begins from until number (further (length place.left) place) runner before behind notes own spare ticked
+    (before behind : MomentKept) (notes : NotesKept) (own : LockstepCopy) (spare : ℕ) (tried : List TriedStep) (apart : List RunApart) : Type 0 where
+  pub on : SlotGoesOn design plan fault slot begins from until number (further (length place.left) place) runner before behind notes own spare tried apart
   pub clean : phase_race (faulty_machine design fault) on.goes.at.phase_begins on.goes.at.events ≡ None
 
 -- it came to where its slot ends, the last phase of which has no race in the faulty machine
 pub record SlotIsThrough (design : FlatDesign) (plan : TestPlan) (fault : StuckAt) (slot : FirstSlot) (begins : State) (from until number : ℕ) (runner : Runner) (before behind : MomentKept)
-    (notes : NotesKept) (own : LockstepCopy) (spare ticked : ℕ) : Type 0 where
+    (notes : NotesKept) (own : LockstepCopy) (spare : ℕ) (tried : List TriedStep) (apart : List RunApart) : Type 0 where
   pub place : Place
-  pub on : SlotGoesOn design plan fault slot begins from until number place runner before behind notes own spare ticked
+  pub on : SlotGoesOn design plan fault slot begins from until number place runner before behind notes own spare tried apart
   pub through : place.left ≡ []
   pub last : place.later ≡ []
   pub clean : phase_race (faulty_machine design fault) on.goes.at.phase_begins on.goes.at.events ≡ None

@@ -9,10 +9,11 @@
 
 ghost use Rattle.slot_laws.specs.Laws.{NextBlocksAreOne, SlotsAreCounted};
 
+pub use beside_phases::own_steps_go_on;
 pub use lockstep_block::{
     FaultInSlot, FilterRoom, GoodMoment, LockstepCopy, LockstepRoom, WindowWakes, begin_slot,
     follow_block, is_free, kept_ends, lanes_tell_turns, limits_tell, places_are_told,
-    run_own_block, slot_steps_go_on, stand_at, steps_go_on, turn_writes,
+    run_own_block, stand_at, steps_go_on, turn_writes,
 };
 
 /// Of the events that a machine takes one part at most is its next block.

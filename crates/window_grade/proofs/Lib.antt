@@ -1,3 +1,4 @@
+pub mod Rises
 pub mod Slots
 pub mod Placed
 pub mod Passing

@@ -1,18 +1,20 @@
 -- A faulty machine from strobe to strobe (strobes and slots by IEEE 1364-2001, clause 5).
-use Rattle.std.proofs.Common.{◌≡◌, ℕ, ◌<◌, ◌≤◌, List, [], ◌∷◌, ◌++◌, length, refl, sym, ap, subst, ◌∙◌, arith}
-use Rattle.std.specs.Prelude.{Option, Some, None, true, false}
+use Rattle.std.proofs.Common.{◌≡◌, ℕ, ◌<◌, ◌≤◌, min, Bool, List, [], ◌∷◌, ◌++◌, length, refl, sym, ap, subst, ◌∙◌, arith}
+use Rattle.std.specs.Prelude.{Option, Some, None, true, false, find}
+use Rattle.std.proofs.lemmas.Bool.{le-leb, leb-true}
 use Rattle.std.proofs.lemmas.List.{length-map}
 use Rattle.vf_base.specs.Base.{WatchedBit}
 use Rattle.vf_base.specs.Lists.{AllHold}
 use Rattle.vf_base.specs.declared.finding.End.{End}
 use Rattle.v_design.specs.Designs.{FlatDesign, Machine, StuckAt, TestPlan, faulty_machine}
-use Rattle.v_design.specs.States.{State}
-use Rattle.v_design.specs.Grades.{Sample, Stop, Judged, Detected, FaultGrade, samples}
+use Rattle.v_design.specs.States.{State, found_or, least_of}
+use Rattle.v_design.specs.Grades.{Sample, Stop, Judged, Detected, FaultGrade, by_then, first_strobe, is_hard, samples, some_sample, stop_time}
 use Rattle.v_design.specs.Plain.{grade_of}
 use Rattle.v_design.specs.WellFormed.{IsAscending}
 use Rattle.strobe_detect.specs.Graders.{IsWatched}
 use Rattle.copy_laws.specs.Windows.{state_at}
 use Rattle.grade_laws.specs.Ahead.{StopsAfter}
+use Rattle.grade_laws.specs.Decisions.{NotBefore, none-before, not-before}
 use Rattle.grade_laws.specs.Strobes.{ascending-later, all-since}
 use Rattle.grade_laws.specs.Grading.{good_stop, faulty_seen, faulty_stop, times}
 use Rattle.machine.specs.Standing.{state_kept}
@@ -20,10 +22,12 @@ use Rattle.machine.specs.declared.parts.Machine.{Machine as Simulated}
 use Rattle.fault_grade.specs.Benches.{IsObjectOf}
 use Rattle.fault_grade.specs.Beside.{early, values-watched}
 use Rattle.beside_laws.specs.Stands.{IsAfter, IsSince, RunsGoOn, RunsStand}
-use Rattle.fault_strobes.specs.Said.{Said, ends_there, said_at}
+use Rattle.fault_strobes.specs.Said.{IsSaid, Judging, Keeping, Said, ending_strobes, ends_there, keeps, plan_by, said_at}
 use Rattle.fault_strobes.specs.Strobes.{EndsWith, StrobesGoOn, StrobedGradingsEnd, StrobedGradingsGoOn}
+use Rattle.window_grade.specs.Beside.{GoesUpTo}
 use Rattle.window_grade.specs.Running.{IsRunningAt, StopsWith, CanRunTo, RunLeads}
 use Rattle.window_grade.specs.Grading.{IsGradingAt, CanPass, GradingLeads}
+use Rattle.window_grade.specs.declared.beside.RunBeside.{RunBeside}
 
 -- Times and lists
 
@@ -68,9 +72,51 @@ watched-there design plan fault now m watched at is all =
     values-watched m watched at.standing.values
     (subst (λ (machine : Machine). AllHold (IsObjectOf machine.design) watched) (sym at.same_machine) (subst (AllHold (IsObjectOf design)) is all))
 
+-- The end of a grading that goes on
+
+two-least : (time : ℕ) (one other : Option ℕ) → by_then time one ≡ true → by_then time other ≡ true → by_then time (least_of one other) ≡ true
+two-least time None other a b = b
+two-least time (Some one) None a b = a
+two-least time (Some one) (Some other) a b =
+    let first : time ≤ one = leb-true time one a in
+    let second : time ≤ other = leb-true time other b in
+    le-leb time (min one other) (omega (arith, first, second))
+
+by-end : (time end : ℕ) (found : Option ℕ) → time ≤ end → by_then time found ≡ true → time ≤ found_or end found
+by-end time end None h e = h
+by-end time end (Some found) h e = leb-true time found e
+
+stop-not-before : (time until : ℕ) (stop : Option Stop) → time ≤ until → StopsAfter until stop → NotBefore time stop
+stop-not-before time until None h a = tt
+stop-not-before time until (Some stop) h a = omega (arith, h, a)
+
+-- no strobe up to a time may have ended it
+hard-since : (design : FlatDesign) (plan : TestPlan) (fault : StuckAt) (passed next : List ℕ) (said : Said) (time : ℕ) → plan.strobes ≡ passed ++ next →
+    IsSaid (good_seen design plan) (faulty_seen design plan fault) passed said → AllHold (λ strobe. time ≤ strobe) next →
+    by_then time (first_strobe is_hard (good_seen design plan) (faulty_seen design plan fault) (ending_strobes (keeps said) plan.strobes)) ≡ true
+hard-since design plan fault passed next (Judging possible) time parts said since =
+    let test : ℕ → Bool = λ strobe. some_sample is_hard (good_seen design plan strobe) (faulty_seen design plan fault strobe) in
+    ap (λ l. by_then time (find test l)) parts ∙ none-before test time passed next said.0 since
+hard-since design plan fault passed next (Keeping differs) time parts said since = refl
+
+-- up to a time before which no strobe is left it ends at most by a stop of its machine
+pub goes-on : (design : FlatDesign) (plan : TestPlan) (fault : StuckAt) (now : Option ℕ) (passed next : List ℕ) (said : Said) (until : ℕ) → StrobesGoOn design plan fault now passed next said →
+    AllHold (λ strobe. until ≤ strobe) next → StopsAfter until (good_stop design plan) → until ≤ plan.end → GoesUpTo design (plan_by (keeps said) plan) fault until
+goes-on design plan fault now passed next said until g since good within = λ time low stop.
+    by-end time plan.end
+    (least_of (stop_time (good_stop design plan))
+    (least_of (stop_time (faulty_stop design plan fault)) (first_strobe is_hard (good_seen design plan) (faulty_seen design plan fault) (ending_strobes (keeps said) plan.strobes))))
+    (omega (arith, low, within))
+    (two-least time (stop_time (good_stop design plan))
+    (least_of (stop_time (faulty_stop design plan fault)) (first_strobe is_hard (good_seen design plan) (faulty_seen design plan fault) (ending_strobes (keeps said) plan.strobes)))
+    (not-before time (good_stop design plan) (stop-not-before time until (good_stop design plan) low good))
+    (two-least time (stop_time (faulty_stop design plan fault)) (first_strobe is_hard (good_seen design plan) (faulty_seen design plan fault) (ending_strobes (keeps said) plan.strobes))
+    (not-before time (faulty_stop design plan fault) stop)
+    (hard-since design plan fault passed next said time g.strobes g.so_far (since-all time until next low since))))
+
 -- At a strobe
 
-module _ (watched : List WatchedBit) (sample : Sample) (m : Simulated) (said : Said) (of : CanPass watched sample m said) where
+module _ (watched : List WatchedBit) (sample : Sample) (beside : RunBeside) (m : Simulated) (said : Said) (of : CanPass watched sample beside m said) where
   abbrev rest : List ℕ
   rest = times of.next ++ of.later
 
@@ -84,13 +130,18 @@ module _ (watched : List WatchedBit) (sample : Sample) (m : Simulated) (said : S
   sample-within = hold-at (λ strobe. strobe ≤ of.plan.end) of.at.passed sample.time rest (subst (AllHold (λ strobe. strobe ≤ of.plan.end)) grading-here.strobes of.at.rules.in_time)
 
   -- the machine may be run to it
-  abbrev pub can-run : CanRunTo sample.time m
+  abbrev pub can-run : CanRunTo sample.time beside m
   can-run = record {
     design = of.design;
     plan = of.plan;
     fault = of.fault;
     now = of.now;
+    kept = keeps said;
     at = of.at.at;
+    known = of.known;
+    goes =
+        goes-on of.design of.plan of.fault of.now of.at.passed (sample.time ∷ rest) said sample.time grading-here
+        (omega arith, all-since sample.time sample.time rest (omega arith) others-later) of.at.before.0 sample-within;
     since = after-since of.now sample.time grading-here.later.0;
     within = sample-within;
     early = early of.plan sample.time of.at.rules sample-within;

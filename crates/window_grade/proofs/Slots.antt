@@ -1,30 +1,49 @@
 -- A faulty machine runs slot by slot (slots by IEEE 1364-2001, clause 5).
-use Rattle.std.proofs.Common.{◌≡◌, ℕ, zero, suc, ◌+◌, ◌-◌, ◌<◌, ◌≤◌, Bool, true, false, refl, sym, ap, subst, ◌∙◌, arith, inl, inr}
-use Rattle.std.specs.Prelude.{Option, Some, None, nat_le}
+use Rattle.std.proofs.Common.{◌≡◌, ℕ, zero, suc, ◌+◌, ◌-◌, ◌<◌, ◌≤◌, Bool, true, false, List, [], ◌∷◌, length, refl, sym, ap, subst, ◌∙◌, arith, inl, inr}
+use Rattle.std.specs.Prelude.{Option, Some, None, nat_eq, nat_le, if◌then◌else◌}
 use Rattle.std.specs.Option.{option_map}
-use Rattle.std.proofs.lemmas.Bool.{le-leb, cases_lt}
+use Rattle.std.proofs.lemmas.Bool.{cases_lt, eqb-true, le-leb, leb-true}
+use Rattle.vf_base.specs.Lists.{AllHold}
 use Rattle.vf_base.specs.declared.finding.End.{End}
-use Rattle.v_design.specs.Designs.{FlatDesign, Machine, StuckAt, TestPlan, faulty_machine}
+use Rattle.v_design.specs.Designs.{FlatDesign, Machine, StuckAt, TestPlan, good_machine, faulty_machine}
+use Rattle.v_design.specs.Laws.{BeginsPhase}
+use Rattle.v_design.specs.OwnSteps.{phases_if, slot_beside}
 use Rattle.v_design.specs.States.{State}
-use Rattle.v_design.specs.Runs.{only_if, slot_end}
-use Rattle.v_design.specs.Grades.{SlotOutcome, Fine, Race, Hyper, slot_outcome, faulty_ending, FaultGrade, Raced, Looped}
-use Rattle.vf_base.specs.declared.finding.Side.TheVariants.{Faulty}
+use Rattle.v_design.specs.Runs.{FirstSlot, first_run, only_if, slot_end}
+use Rattle.v_design.specs.Grades.{Phase, SlotOutcome, Fine, Race, Hyper, first_stop, slot_outcome, faulty_ending}
 use Rattle.v_design.specs.Plain.{grade_of}
+use Rattle.order_laws.specs.FirstRuns.{Follow, Rise}
 use Rattle.causal_monitor.specs.declared.slot.Turn.{Turn}
 use Rattle.causal_monitor.specs.declared.slot.SlotLog.{SlotLog}
-use Rattle.machine_laws.specs.SlotLoop.{slot_from}
+use Rattle.machine_laws.specs.SlotLoop.{SlotsBegin, slot_from}
 use Rattle.between_slots.specs.FewLaws.{fine-few}
-use Rattle.machine.specs.Standing.{IsStanding, RunsSlot, machine_kept, state_kept, begins_next, begun_within, outcome_of, next-is-following}
+use Rattle.grade_laws.specs.Decisions.{NotBefore}
+use Rattle.grade_laws.specs.Grading.{faulty_stop}
+use Rattle.window_runs.specs.OfSlot.{TellsSlot}
+use Rattle.window_runs.specs.declared.slot.SlotRuns.{SlotRuns}
+use Rattle.own_counts.specs.Counts.{AtMostOwn}
+use Rattle.own_counts.specs.Joins.{IsByToo, fault_end}
+use Rattle.own_slots.specs.Slots.{TriedStepsGoOn, WereTried}
+use Rattle.machine.specs.BesideRuns.{TicksAtMostOwn}
+use Rattle.machine.specs.Standing.{BeginsInFirstRun, IsStanding, RunsSlot, machine_kept, state_kept, begins_next, begun_within, outcome_of, next-is-following}
 use Rattle.machine.specs.declared.end.SlotEnd.{SlotEnd}
 use Rattle.machine.specs.declared.parts.Stage.TheVariants.{Between}
 use Rattle.machine.specs.declared.parts.Machine.{Machine as Simulated}
-use Rattle.machine.specs.Ticks.{raised_by, process_steps}
+use Rattle.machine.specs.Ticks.{raised_by}
 use Rattle.fault_grade.specs.Reached.{next_of}
-use Rattle.fault_grade.specs.Ticks.{steps_by, grading_steps}
+use Rattle.fault_strobes.specs.Said.{plan_by}
 use Rattle.graded_steps.specs.Ahead.{SlotsAhead, RunsTakeSteps}
-use Rattle.graded_steps.specs.Behind.{RisesWithin, steps_up_to}
-use Rattle.beside_laws.specs.Stands.{HasRun, RunsGoOn}
-use Rattle.window_grade.specs.Running.{IsAtStage, IsRunningAt, StaysOn, StopsWith, EndsSo, RunsSlotAt, TicksTo, TicksSlotAt, IsOnWayTo}
+use Rattle.beside_laws.specs.Stands.{HasRun, IsAfter, IsSince, RunsGoOn}
+use Rattle.window_grade.specs.Beside.{GoesUpTo, IsKnownBeside, TicksTo, slot_at, tried_at}
+use Rattle.window_grade.specs.Rises.{OwnStepsRise}
+use Rattle.window_grade.specs.Running.{IsAtStage, IsRunningAt, StaysOn, StopsWith, EndsSo, RunsSlotAt, TicksSlotAt, IsOnWayTo}
+use Rattle.window_grade.specs.declared.beside.RunBeside.{RunBeside}
+
+-- Times
+
+pub since-after : (now : Option ℕ) (time : ℕ) → IsAfter now time → IsSince now time
+since-after None time after = tt
+since-after (Some now) time after = omega (arith, after)
 
 -- The slot that is next
 
@@ -123,43 +142,87 @@ raised-most : (count before : ℕ) → raised_by count before ≤ before + count
 raised-most zero before = omega arith
 raised-most (suc count) before = let x : raised_by count before ≤ before + count = raised-most count before in omega (arith, x)
 
-pub rises-more : (one two three before mid after : ℕ) → RisesWithin one two before mid → RisesWithin two three mid after → RisesWithin one three before after
-rises-more one two three before mid after r s = omega (arith, r, s)
+-- no slot up to the next one's time stops the run before that
+not-before : (machine : Machine) (time : ℕ) (slots : List FirstSlot) → AllHold (λ (slot : FirstSlot). time ≤ slot.begins.time) slots → NotBefore time (first_stop machine slots)
+not-before machine time [] all = tt
+not-before machine time (slot ∷ slots) all = go (slot_outcome machine slot) (not-before machine time slots all.1)
+  where
+    go : (outcome : SlotOutcome) → NotBefore time (first_stop machine slots) → NotBefore time (elim outcome [
+      | Fine ↦ first_stop machine slots
+      | Race pair ↦ Some (record { time = slot.begins.time; outcome = Race pair })
+      | Hyper ↦ Some (record { time = slot.begins.time; outcome = Hyper })
+    ])
+    go Fine rest = rest
+    go (Race pair) rest = all.0
+    go Hyper rest = all.0
 
--- a stop of the faulty machine ends a grading with all process steps of its first run
-stop-steps : (design : FlatDesign) (plan : TestPlan) (fault : StuckAt) (time : ℕ) (outcome : SlotOutcome) (found : FaultGrade) → faulty_ending time outcome ≡ Some found →
-    grading_steps design plan fault found ≡ steps_by (faulty_machine design fault) plan.end
-stop-steps design plan fault time Fine found e = cc
-stop-steps design plan fault time (Race pair) found e = ap (grading_steps design plan fault) (sym (some-is (Raced Faulty pair) found e))
-stop-steps design plan fault time Hyper found e = ap (grading_steps design plan fault) (sym (some-is (Looped time) found e))
+since-all : (time low : ℕ) (slots : List FirstSlot) → low ≤ time → AllHold (λ (slot : FirstSlot). time < slot.begins.time) slots → AllHold (λ (slot : FirstSlot). low ≤ slot.begins.time) slots
+since-all time low [] h all = tt
+since-all time low (slot ∷ slots) h all = (let x : time < slot.begins.time = all.0 in omega (arith, h, x), since-all time low slots h all.1)
+
+stop-since : (design : FlatDesign) (plan : TestPlan) (fault : StuckAt) (now : Option ℕ) (begins state : State) → HasRun (faulty_machine design fault) plan.end now (Some begins) state →
+    NotBefore begins.time (faulty_stop design plan fault)
+stop-since design plan fault now begins state run =
+    subst (NotBefore begins.time) (sym run.stops) (not-before (faulty_machine design fault) begins.time run.ahead (all run.ahead run.follow run.rise))
+  where
+    all : (slots : List FirstSlot) → Follow (faulty_machine design fault) plan.end (Some begins) slots → Rise slots → AllHold (λ (slot : FirstSlot). begins.time ≤ slot.begins.time) slots
+    all [] follow rise = absurd follow
+    all (slot ∷ slots) follow rise =
+        let here : begins.time ≤ slot.begins.time = subst (λ (x : FirstSlot). begins.time ≤ x.begins.time) (sym follow.0) (omega arith) in
+        (here, since-all slot.begins.time begins.time slots here rise.0)
 
 -- the counter of the next slot
-pub slot-ticks : RunsTakeSteps → (time : ℕ) (old new : Simulated) (begins : State) (first : Turn) (end : SlotEnd) (ended : Option End) (log : SlotLog) (before after : ℕ) →
-    begins_next old ≡ Some begins → begins.time ≡ time → RunsSlot (machine_kept old) begins first end new log → EndsSo time end ended →
-    after ≡ raised_by (process_steps (slot_from (machine_kept old) begins)) before → TicksSlotAt time old ended before after
-slot-ticks take time old new begins first end ended log before after is at runs so rose = λ design plan fault now running early.
+pub slot-ticks : OwnStepsRise → (time : ℕ) (old : Simulated) (begins : State) (beside : RunBeside) (before after : ℕ) → begins_next old ≡ Some begins → begins.time ≡ time →
+    ((design : FlatDesign) (plan : TestPlan) (fault : StuckAt) (kept : Bool) (now : Option ℕ) → IsRunningAt design plan fault now old →
+    IsKnownBeside design (plan_by kept plan) fault now time beside →
+    TicksAtMostOwn (slot_beside (good_machine design) (faulty_machine design fault) (first_run (good_machine design) plan.end) (slot_from (faulty_machine design fault) begins))
+    (length (tried_at beside time)) before after) → TicksSlotAt time old beside before after
+slot-ticks rises time old begins beside before after is at ticks = λ design plan fault now kept running early known goes.
     let machine = faulty_machine design fault in
-    let ran : RunsSlot machine begins first end new log = subst (λ (m : Machine). RunsSlot m begins first end new log) running.same_machine runs in
-    let own : after ≡ raised_by (process_steps (slot_from machine begins)) before =
-    subst (λ (m : Machine). after ≡ raised_by (process_steps (slot_from m begins)) before) running.same_machine rose in
-    let most : raised_by (process_steps (slot_from machine begins)) before ≤ before + process_steps (slot_from machine begins) = raised-most (process_steps (slot_from machine begins)) before in
-    let ahead = ahead-here design plan fault now old begins running is (omega (arith, at, early)) in
-    go design plan fault now running early ran own most ahead ended so
-  where
-    go : (design : FlatDesign) (plan : TestPlan) (fault : StuckAt) (now : Option ℕ) → IsRunningAt design plan fault now old → time ≤ plan.end →
-        RunsSlot (faulty_machine design fault) begins first end new log → after ≡ raised_by (process_steps (slot_from (faulty_machine design fault) begins)) before →
-        raised_by (process_steps (slot_from (faulty_machine design fault) begins)) before ≤ before + process_steps (slot_from (faulty_machine design fault) begins) →
-        SlotsAhead (faulty_machine design fault) plan.end now (Some begins) → (found : Option End) → EndsSo time end found → TicksTo design plan fault now time found before after
-    go design plan fault now running early ran own most ahead None fine =
-        let between : steps_up_to (faulty_machine design fault) now + process_steps (slot_from (faulty_machine design fault) begins) ≡ steps_by (faulty_machine design fault) begins.time =
-        (take.fine (faulty_machine design fault) plan.end now begins running.rules ahead (omega (arith, at, early)) (sym ran.outcome ∙ fine)).1 in
-        let by : steps_by (faulty_machine design fault) begins.time ≡ steps_by (faulty_machine design fault) time = ap (steps_by (faulty_machine design fault)) at in
-        omega (arith, own, most, between, by)
-    go design plan fault now running early ran own most ahead (Some ended) ends =
-        let between : steps_up_to (faulty_machine design fault) now + process_steps (slot_from (faulty_machine design fault) begins) ≡ steps_by (faulty_machine design fault) plan.end =
-        take.stops (faulty_machine design fault) plan.end now begins ahead (λ fine. ending-fine time (outcome_of end) ended (ran.outcome ∙ fine) ends) in
-        let all : grading_steps design plan fault (grade_of ended) ≡ steps_by (faulty_machine design fault) plan.end = stop-steps design plan fault time (outcome_of end) (grade_of ended) ends in
-        omega (arith, own, most, between, all)
+    let P = plan_by kept plan in
+    let low : begins.time ≤ plan.end = omega (arith, at, early) in
+    let ahead = ahead-here design plan fault now old begins running is low in
+    let stop = stop-since design plan fault now begins (state_kept old) (run-here design plan fault now old begins running is low) in
+    let own = ticks design plan fault kept now running known in
+    let most : raised_by own.0 before ≤ before + own.0 = raised-most own.0 before in
+    let rose : after ≤ before + own.0 = (let same = own.1 in omega (arith, same, most)) in
+    let here : begins.time ≤ fault_end design P fault = goes begins.time (omega (arith, at)) stop in
+    subst (λ t. TicksTo design P fault beside now (Some t) before after) at
+    (rises.slot design P fault beside now begins before own.0 after ahead here known.taken
+    (subst (λ t. AtMostOwn (slot_beside (good_machine design) machine (first_run (good_machine design) plan.end) (slot_from machine begins)) (own.0 + length (tried_at beside t))) (sym at) own.2) rose)
+
+-- what is known of the slot that is next
+module _ (design : FlatDesign) (plan : TestPlan) (fault : StuckAt) (now : Option ℕ) (kept : Bool) (time : ℕ) (beside : RunBeside) (m : Simulated) (begins : State)
+    (running : IsRunningAt design plan fault now m) (known : IsKnownBeside design (plan_by kept plan) fault now time beside) (is : begins_next m ≡ Some begins) (at : begins.time ≡ time)
+    (after : IsAfter now time) where
+  abbrev pub others : List Phase
+  others = phases_if (good_machine design) (slot_at (first_run (good_machine design) plan.end) time)
+
+  same-others : phases_if (good_machine design) (slot_at known.slots time) ≡ others
+  same-others = ap (phases_if (good_machine design)) (sym (known.found time after (omega arith)))
+
+  -- the good machine's slot of its time
+  pub goods-tell : (goods : SlotRuns) → TellsSlot design time (phases_if (good_machine design) (slot_at known.slots time)) goods → TellsSlot design time others goods
+  goods-tell goods tells = subst (λ (l : List Phase). TellsSlot design time l goods) same-others tells
+
+  -- the steps that were taken in it
+  pub tried-there : SlotsBegin → TriedStepsGoOn → WereTried (good_machine design) (faulty_machine design fault) others begins (tried_at beside time)
+  tried-there begin tried = go (nat_eq time beside.time) refl
+    where
+      go : (b : Bool) → nat_eq time beside.time ≡ b → WereTried (good_machine design) (faulty_machine design fault) others begins (if b then beside.tried.now else [])
+      go true e =
+          let same : begins.time ≡ beside.time = at ∙ eqb-true time beside.time e in
+          subst (λ t. WereTried (good_machine design) (faulty_machine design fault) (phases_if (good_machine design) (slot_at (first_run (good_machine design) plan.end) t)) begins beside.tried.now) at
+          (known.taken.tried begins same (subst (λ (machine : Machine). BeginsInFirstRun machine begins) running.same_machine (running.standing.reached begins is)))
+      go false e =
+          tried.none (good_machine design) (faulty_machine design fault) others begins
+          (begin (faulty_machine design fault) begins (subst (λ (machine : Machine). BeginsPhase machine begins) running.same_machine (running.standing.begins begins is)))
+
+-- the slot that is next comes after the time so far
+pub next-after : RunsGoOn → (design : FlatDesign) (plan : TestPlan) (fault : StuckAt) (now : Option ℕ) (m : Simulated) (begins : State) → IsRunningAt design plan fault now m →
+    begins_next m ≡ Some begins → begins.time ≤ plan.end → IsAfter now begins.time
+next-after law design plan fault now m begins running is low =
+    law.later (faulty_machine design fault) plan.end now begins (state_kept m) (run-here design plan fault now m begins running is low)
 
 -- the slot after it is later
 pub slot-rises : RunsGoOn → (design : FlatDesign) (plan : TestPlan) (fault : StuckAt) (time : ℕ) (m : Simulated) → IsRunningAt design plan fault (Some time) m → time ≤ plan.end →
@@ -174,6 +237,14 @@ slot-rises law design plan fault time m at early later e =
           omega (arith, after, same)
     ]
 
+-- and so it is where its time is known
+pub next-since : RunsGoOn → (design : FlatDesign) (plan : TestPlan) (fault : StuckAt) (now : Option ℕ) (m : Simulated) → IsRunningAt design plan fault now m → (time : ℕ) → next_of m ≡ Some time →
+    time ≤ plan.end → IsSince now time
+next-since law design plan fault now m running time here low =
+    let n = next-is m time here in
+    let same : n.0.time ≡ time = n.2 in
+    subst (IsSince now) n.2 (since-after now n.0.time (next-after law design plan fault now m n.0 running n.1 (omega (arith, same, low))))
+
 -- Between slots
 
 -- a machine that passes a time without a slot isn't at its start
@@ -181,31 +252,79 @@ passed-stage : (until : ℕ) (now : Option ℕ) (m : Simulated) → IsAtStage no
 passed-stage until None m first past = absurd (let late : until < 0 = past 0 first in omega (arith, late))
 passed-stage until (Some now) m between past = between
 
--- no slot up to a time is next, so no step comes up to it
+-- no slot up to a time is next, so the same slots are ahead
 passed-ahead : RunsTakeSteps → (design : FlatDesign) (plan : TestPlan) (fault : StuckAt) (until : ℕ) (m : Simulated) → until ≤ plan.end → (way : IsOnWayTo design plan fault until m) →
-    ((later : ℕ) → next_of m ≡ Some later → until < later) → SlotsAhead (faulty_machine design fault) plan.end (Some until) (begun_within plan.end (begins_next m)) ×
-    (steps_up_to (faulty_machine design fault) way.now ≡ steps_by (faulty_machine design fault) until)
+    ((later : ℕ) → next_of m ≡ Some later → until < later) → SlotsAhead (faulty_machine design fault) plan.end (Some until) (begun_within plan.end (begins_next m))
 passed-ahead take design plan fault until m within way past =
-    take.passes (faulty_machine design fault) plan.end way.now (begun_within plan.end (begins_next m)) until way.at.rules way.at.ahead way.since within
-    (λ begins e. past begins.time (ap (option_map (λ (s : State). s.time)) (within-is plan.end (begins_next m) begins e)))
+    (take.passes (faulty_machine design fault) plan.end way.now (begun_within plan.end (begins_next m)) until way.at.rules way.at.ahead way.since within
+    (λ begins e. past begins.time (ap (option_map (λ (s : State). s.time)) (within-is plan.end (begins_next m) begins e)))).0
 
--- it went on towards a time, and a counter rose by no more than the process steps between
-pub record IsTickedTo (design : FlatDesign) (plan : TestPlan) (fault : StuckAt) (until from before after : ℕ) (m : Simulated) : Type 0 where
+-- what comes by a time comes by a later one
+pub by-since : (now : Option ℕ) (time : ℕ) → IsSince now time → IsByToo now (Some time)
+by-since None time since other by = cc
+by-since (Some now) time since other by = (let low : other ≤ now = leb-true other now by in le-leb other time (omega (arith, low, since)))
+
+pub by-too-more : (one between other : Option ℕ) → IsByToo one between → IsByToo between other → IsByToo one other
+by-too-more one between other first second time by = second time (first time by)
+
+-- what is known behind a time and up to another is known of a part
+after-later : (now : Option ℕ) (low time : ℕ) → IsSince now low → low < time → IsAfter now time
+after-later None low time since after = tt
+after-later (Some now) low time since after = omega (arith, since, after)
+
+pub known-part : (design : FlatDesign) (plan : TestPlan) (fault : StuckAt) (now later : Option ℕ) (until low : ℕ) (beside : RunBeside) →
+    ((time : ℕ) → IsAfter later time → IsAfter now time) → low ≤ until → IsKnownBeside design plan fault now until beside → IsKnownBeside design plan fault later low beside
+known-part design plan fault now later until low beside after h known = record {
+  slots = known.slots;
+  tells = known.tells;
+  found = λ time a b. known.found time (after time a) (omega (arith, b, h));
+  taken = known.taken;
+}
+
+pub known-later : (design : FlatDesign) (plan : TestPlan) (fault : StuckAt) (now : Option ℕ) (later until low : ℕ) (beside : RunBeside) → IsSince now later → low ≤ until →
+    IsKnownBeside design plan fault now until beside → IsKnownBeside design plan fault (Some later) low beside
+known-later design plan fault now later until low beside since h known = known-part design plan fault now (Some later) until low beside (λ time a. after-later now later time since a) h known
+
+pub goes-less : (design : FlatDesign) (plan : TestPlan) (fault : StuckAt) (until low : ℕ) → low ≤ until → GoesUpTo design plan fault until → GoesUpTo design plan fault low
+goes-less design plan fault until low h goes = λ time by stop. goes time (omega (arith, by, h)) stop
+
+-- it went on towards a time beside the good machine's slots, and a counter rose by at most its own steps
+pub record IsTickedTo (design : FlatDesign) (plan : TestPlan) (fault : StuckAt) (kept : Bool) (until : ℕ) (beside : RunBeside) (from : Option ℕ) (before after : ℕ) (m : Simulated) : Type 0 where
   pub way : IsOnWayTo design plan fault until m
-  pub ticks : RisesWithin from (steps_up_to (faulty_machine design fault) way.now) before after
+  pub known : IsKnownBeside design (plan_by kept plan) fault way.now until beside
+  pub since : IsByToo from way.now
+  pub ticks : TicksTo design (plan_by kept plan) fault beside from way.now before after
 
-pub ticks-passed : RunsTakeSteps → (design : FlatDesign) (plan : TestPlan) (fault : StuckAt) (until from before after : ℕ) (m : Simulated) → until ≤ plan.end →
-    IsTickedTo design plan fault until from before after m → ((later : ℕ) → next_of m ≡ Some later → until < later) →
-    RisesWithin from (steps_by (faulty_machine design fault) until) before after
-ticks-passed take design plan fault until from before after m within ticked past =
-    subst (λ n. RisesWithin from n before after) (passed-ahead take design plan fault until m within ticked.way past).1 ticked.ticks
+module _ (rises : OwnStepsRise) (design : FlatDesign) (plan : TestPlan) (fault : StuckAt) (kept : Bool) (until : ℕ) (beside : RunBeside) (from : Option ℕ) (before after : ℕ) (m : Simulated)
+    (ticked : IsTickedTo design plan fault kept until beside from before after m) where
+  -- no further slot is run up to the time
+  pub ticks-passed : TicksTo design (plan_by kept plan) fault beside from (Some until) before after
+  ticks-passed =
+      let P = plan_by kept plan in
+      rises.joins design P fault beside from ticked.way.now (Some until) before after after ticked.since (by-since ticked.way.now until ticked.way.since) ticked.ticks
+      (rises.taken design P fault beside ticked.way.now (Some until) after ticked.known.taken)
+
+  -- the slot of a time is run
+  pub ticks-slot : (time counter : ℕ) → IsSince ticked.way.now time → TicksTo design (plan_by kept plan) fault beside ticked.way.now (Some time) after counter →
+      TicksTo design (plan_by kept plan) fault beside from (Some time) before counter
+  ticks-slot time counter since ticks =
+      rises.joins design (plan_by kept plan) fault beside from ticked.way.now (Some time) before after counter ticked.since (by-since ticked.way.now time since) ticked.ticks ticks
+
+  -- and the run stops there
+  pub ticks-stopped : (time counter : ℕ) → IsSince ticked.way.now time → time ≤ until → TicksTo design (plan_by kept plan) fault beside ticked.way.now (Some time) after counter →
+      TicksTo design (plan_by kept plan) fault beside from (Some until) before counter
+  ticks-stopped time counter since low ticks =
+      let P = plan_by kept plan in
+      rises.joins design P fault beside from (Some time) (Some until) before counter counter
+      (by-too-more from ticked.way.now (Some time) ticked.since (by-since ticked.way.now time since)) (by-since (Some time) until low) (ticks-slot time counter since ticks)
+      (rises.taken design P fault beside (Some time) (Some until) counter ticked.known.taken)
 
 -- no slot up to a time is next
 pub run-passed : RunsGoOn → RunsTakeSteps → (design : FlatDesign) (plan : TestPlan) (fault : StuckAt) (until : ℕ) (m : Simulated) → until ≤ plan.end → IsOnWayTo design plan fault until m →
     ((later : ℕ) → next_of m ≡ Some later → until < later) → IsRunningAt design plan fault (Some until) m
 run-passed law take design plan fault until m within way past = record {
   rules = way.at.rules;
-  ahead = (passed-ahead take design plan fault until m within way past).0;
+  ahead = passed-ahead take design plan fault until m within way past;
   same_machine = way.at.same_machine;
   standing = way.at.standing;
   stage = passed-stage until way.now m way.at.stage past;

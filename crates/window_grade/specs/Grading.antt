@@ -14,9 +14,11 @@ use Rattle.grade_laws.specs.Grading.{good_seen, good_stop, times}
 use Rattle.machine.specs.declared.parts.Machine.{Machine as Simulated}
 use Rattle.fault_grade.specs.Benches.{IsObjectOf}
 use Rattle.beside_laws.specs.Stands.{IsSince}
-use Rattle.fault_strobes.specs.Said.{Said}
+use Rattle.fault_strobes.specs.Said.{Said, keeps, plan_by}
 use Rattle.fault_strobes.specs.Strobes.{EndsWith, StrobesGoOn}
+use Rattle.window_grade.specs.Beside.{IsKnownBeside}
 use Rattle.window_grade.specs.Running.{IsRunningAt}
+use Rattle.window_grade.specs.declared.beside.RunBeside.{RunBeside}
 
 -- the grading of a fault is at a time: its faulty machine stands there, the strobes so far said this, these samples of the good machine are next, and behind them these strobes
 pub record IsGradingAt (design : FlatDesign) (plan : TestPlan) (fault : StuckAt) (now : Option ℕ) (m : Simulated) (next : List Sample) (later : List ℕ) (said : Said) : Type 0 where
@@ -30,7 +32,7 @@ pub record IsGradingAt (design : FlatDesign) (plan : TestPlan) (fault : StuckAt)
   pub before : AllHold (λ (sample : Sample). StopsAfter sample.time (good_stop design plan)) next
 
 -- a grading that may pass a strobe
-pub record CanPass (watched : List WatchedBit) (sample : Sample) (m : Simulated) (said : Said) : Type 0 where
+pub record CanPass (watched : List WatchedBit) (sample : Sample) (beside : RunBeside) (m : Simulated) (said : Said) : Type 0 where
   pub design : FlatDesign
   pub plan : TestPlan
   pub fault : StuckAt
@@ -39,6 +41,7 @@ pub record CanPass (watched : List WatchedBit) (sample : Sample) (m : Simulated)
   pub later : List ℕ
   pub watched_are : plan.watched ≡ watched
   pub at : IsGradingAt design plan fault now m (sample ∷ next) later said
+  pub known : IsKnownBeside design (plan_by (keeps said) plan) fault now sample.time beside
 
 -- it goes on at a time, or it ended by then with this grade
 abbrev pub GradingLeads : FlatDesign → TestPlan → StuckAt → ℕ → List Sample → List ℕ → Option End → Simulated → Said → Type 0
@@ -46,11 +49,12 @@ GradingLeads design plan fault time next later None m said = IsGradingAt design 
 GradingLeads design plan fault time next later (Some end) m said = EndsWith design plan fault time (grade_of end) said
 
 -- a strobe was passed
-abbrev pub Passes : (watched : List WatchedBit) (sample : Sample) (old : Simulated) (before : Said) → CanPass watched sample old before → Option End → Simulated → Said → Type 0
-Passes watched sample old before of end new after = GradingLeads of.design of.plan of.fault sample.time of.next of.later end new after
+abbrev pub Passes : (watched : List WatchedBit) (sample : Sample) (beside : RunBeside) (old : Simulated) (before : Said) → CanPass watched sample beside old before → Option End → Simulated →
+    Said → Type 0
+Passes watched sample beside old before of end new after = GradingLeads of.design of.plan of.fault sample.time of.next of.later end new after
 
 -- a grading that may go through a window to a time: the window's samples, which come by then, are next, and the other strobes come after it
-pub record CanGrade (watched : List WatchedBit) (samples : List Kept) (until : ℕ) (m : Simulated) (said : Said) : Type 0 where
+pub record CanGrade (watched : List WatchedBit) (samples : List Kept) (until : ℕ) (beside : RunBeside) (m : Simulated) (said : Said) : Type 0 where
   pub design : FlatDesign
   pub plan : TestPlan
   pub fault : StuckAt
@@ -58,6 +62,7 @@ pub record CanGrade (watched : List WatchedBit) (samples : List Kept) (until : �
   pub later : List ℕ
   pub watched_are : plan.watched ≡ watched
   pub at : IsGradingAt design plan fault now m (map sample_of samples) later said
+  pub known : IsKnownBeside design (plan_by (keeps said) plan) fault now until beside
   pub since : IsSince now until
   pub by_then : AllHold (λ (sample : Sample). sample.time ≤ until) (map sample_of samples)
   pub after : AllHold (λ strobe. until < strobe) later

@@ -1,5 +1,5 @@
 -- A faulty machine in its first run (slots by IEEE 1364-2001, clause 5).
-use Rattle.std.specs.Prelude.{◌≡◌, ℕ, ◌≤◌, ◌^◌, Option, Some, None, option_map}
+use Rattle.std.specs.Prelude.{◌≡◌, ℕ, ◌≤◌, ◌^◌, Bool, Option, Some, None}
 use Rattle.vf_base.specs.declared.finding.End.{End}
 use Rattle.v_design.specs.Designs.{FlatDesign, StuckAt, TestPlan, faulty_machine}
 use Rattle.v_design.specs.Grades.{Fine, Stop, faulty_ending}
@@ -13,7 +13,9 @@ use Rattle.machine.specs.declared.parts.Machine.{Machine as Simulated}
 use Rattle.fault_grade.specs.Reached.{next_of}
 use Rattle.beside_laws.specs.Stands.{IsSince, HasRun}
 use Rattle.graded_steps.specs.Ahead.{SlotsAhead}
-use Rattle.graded_steps.specs.Behind.{RisesWithin, steps_up_to, steps_graded}
+use Rattle.fault_strobes.specs.Said.{plan_by}
+use Rattle.window_grade.specs.Beside.{GoesUpTo, IsKnownBeside, TicksTo}
+use Rattle.window_grade.specs.declared.beside.RunBeside.{RunBeside}
 
 -- a machine that ran no slot yet has one at time 0, and one that ran some stands between two slots
 abbrev pub IsAtStage : Option ℕ → Simulated → Type 0
@@ -54,30 +56,39 @@ abbrev pub RunLeads : FlatDesign → TestPlan → StuckAt → ℕ → Option End
 RunLeads design plan fault time None m = IsRunningAt design plan fault (Some time) m
 RunLeads design plan fault time (Some end) m = StopsWith design plan fault time end
 
--- a faulty machine was run on from where it stood to a time, or its grading ended by then: a counter rose by no more than the process steps between
-abbrev pub TicksTo : FlatDesign → TestPlan → StuckAt → Option ℕ → ℕ → Option End → ℕ → ℕ → Type 0
-TicksTo design plan fault now time end before after =
-    RisesWithin (steps_up_to (faulty_machine design fault) now) (steps_graded design plan fault (Some time) (option_map grade_of end)) before after
-
 -- the next slot of a machine, at a time, was run
 abbrev pub RunsSlotAt : ℕ → Simulated → Option End → Simulated → Type 0
 RunsSlotAt time old end new =
     (design : FlatDesign) (plan : TestPlan) (fault : StuckAt) (now : Option ℕ) → IsRunningAt design plan fault now old → time ≤ plan.end → RunLeads design plan fault time end new
 
--- and a counter rose by its process steps
-abbrev pub TicksSlotAt : ℕ → Simulated → Option End → ℕ → ℕ → Type 0
-TicksSlotAt time old end before after =
-    (design : FlatDesign) (plan : TestPlan) (fault : StuckAt) (now : Option ℕ) → IsRunningAt design plan fault now old → time ≤ plan.end → TicksTo design plan fault now time end before after
+-- and a counter rose by at most its own steps, but for those that were taken before
+abbrev pub TicksSlotAt : ℕ → Simulated → RunBeside → ℕ → ℕ → Type 0
+TicksSlotAt time old beside before after =
+    (design : FlatDesign) (plan : TestPlan) (fault : StuckAt) (now : Option ℕ) (kept : Bool) → IsRunningAt design plan fault now old → time ≤ plan.end →
+    IsKnownBeside design (plan_by kept plan) fault now time beside → GoesUpTo design (plan_by kept plan) fault time → TicksTo design (plan_by kept plan) fault beside now (Some time) before after
 
--- Slots up to a time
-
--- a faulty machine may be run to a time
-pub record CanRunTo (until : ℕ) (m : Simulated) : Type 0 where
+-- a slot of the faulty machine may be run beside the good machine's
+pub record CanRunSlot (time : ℕ) (beside : RunBeside) (m : Simulated) : Type 0 where
   pub design : FlatDesign
   pub plan : TestPlan
   pub fault : StuckAt
   pub now : Option ℕ
+  pub kept : Bool
   pub at : IsRunningAt design plan fault now m
+  pub known : IsKnownBeside design (plan_by kept plan) fault now time beside
+
+-- Slots up to a time
+
+-- a faulty machine may be run to a time; by the strobes that may end its grading this goes on, but for a stop of the machine
+pub record CanRunTo (until : ℕ) (beside : RunBeside) (m : Simulated) : Type 0 where
+  pub design : FlatDesign
+  pub plan : TestPlan
+  pub fault : StuckAt
+  pub now : Option ℕ
+  pub kept : Bool
+  pub at : IsRunningAt design plan fault now m
+  pub known : IsKnownBeside design (plan_by kept plan) fault now until beside
+  pub goes : GoesUpTo design (plan_by kept plan) fault until
   pub since : IsSince now until
   pub within : until ≤ plan.end
   pub early : until ≤ 2 ^ 63

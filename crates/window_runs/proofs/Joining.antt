@@ -131,9 +131,9 @@ pub ends_join : EndsJoin
 ends_join codes machine phases more runs others r s = record {
   within =
       All-append (IsEndWithin codes (length (phases ++ more))) runs (map (numbered_from count) others)
-      (λ k d low. let w = r.within k d low in record { first = w.first; last = omega (arith, long, w.last); process = w.process; state = w.state })
+      (λ k d low. let w = r.within k d low in record { first = w.first; last = omega (arith, long, w.last); process = w.process; state = w.state; steps = w.steps })
       (All-map (IsEndWithin codes (length (phases ++ more))) (numbered_from count) others
-      (λ k d low. let w = s.within k d low in record { first = omega (arith, w.first); last = omega (arith, long, w.last); process = w.process; state = w.state }));
+      (λ k d low. let w = s.within k d low in record { first = omega (arith, w.first); last = omega (arith, long, w.last); process = w.process; state = w.state; steps = w.steps }));
   order =
       map-append ender_told runs (map (numbered_from count) others)
       ∙ (λ i. r.order i ++ (told-later count others ∙ ap (map (later_ender count)) s.order ∙ order-later machine count 1 more) i)

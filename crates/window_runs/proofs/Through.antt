@@ -109,7 +109,7 @@ ends_part codes machine phases more runs r = record {
       let test = λ (run : RunEnd). nat_le (run_phase run) (length phases) in
       let own = All-filter test (IsEndWithin codes (length (phases ++ more))) runs r.within k d low in
       let early : nat_le (get_or (runs_through (length phases) runs) k d).phase (length phases) ≡ true = filter_passes test runs k d low in
-      record { first = own.first; last = leb-true (get_or (runs_through (length phases) runs) k d).phase (length phases) early; process = own.process; state = own.state };
+      record { first = own.first; last = leb-true (get_or (runs_through (length phases) runs) k d).phase (length phases) early; process = own.process; state = own.state; steps = own.steps };
   order = part-order machine phases more runs r.order;
   told = λ number process phase code here is.
       ap (map (told_by code))

@@ -1,12 +1,13 @@
 -- The faulty machine's block.
-use Rattle.std.proofs.Common.{◌≤◌, ◌^◌, ap, sym, subst, ◌∙◌}
+use Rattle.std.proofs.Common.{◌≤◌, ◌^◌, drop, length, map, ap, sym, subst, ◌∙◌}
+use Rattle.vf_base.specs.Base.{process_number}
 use Rattle.v_design.specs.Designs.{Machine}
 use Rattle.v_design.specs.Plain.{fault_of}
+use Rattle.v_design.specs.States.{State}
 use Rattle.v_design.specs.WellFormed.{KeepsRules}
 use Rattle.race_laws.specs.Writes.{WritesAreOf}
-use Rattle.machine_events.specs.Steps.{raised_by}
 use Rattle.block_compare.specs.block_events.Runners.{machine_of, state_of}
-use Rattle.faulty_block.proofs.Ran.{process-counted, put-rests, put-time, put-writes, ran-block, ran-some, ran-within}
+use Rattle.faulty_block.proofs.Ran.{put-rests, put-time, put-writes, ran-block, ran-some, ran-within, tells-put}
 use Rattle.faulty_block.proofs.run.run_faulty.Goals as goal
 
 pub put_in-requires-clause-put : goal.put_in-requires-clause-put
@@ -31,6 +32,17 @@ run_block-requires-clause-writes g c =
     (put-writes c.lockstep_is_beside.ensures.beside c.writes_are_unseen.ensures c.args.runner.now c.put_in.new.runner c.args.own.now c.args.block.now c.requires.run
     (c.in_ok-put_in.ensures.state c.requires.run.put))
 
+pub run_block-requires-clause-goods : goal.run_block-requires-clause-goods
+run_block-requires-clause-goods g c =
+    let put = c.in_ok-put_in.ensures.state c.requires.run.put in
+    let may = c.requires.goods in
+    record {
+      runs = may.runs;
+      numbers = may.numbers;
+      tells = tells-put c.args.runner.now c.put_in.new.runner (fault_of c.args.fault) may.runs may.numbers c.args.goods.now c.in_ok-put_in.ensures.machine
+          (ap (λ (s : State). s.time) put.rest ∙ sym c.requires.run.put.makes.lockstep.time) may.tells;
+    }
+
 pub returns-clause-whole : goal.returns-clause-whole
 returns-clause-whole g c = c.in_ok-end.ensures.goes.whole
 
@@ -44,37 +56,31 @@ pub returns-clause-ran : goal.returns-clause-ran
 returns-clause-ran g c =
     let begins = c.put_in.new.runner in
     let goes = c.in_ok-end.ensures.goes in
-    let side = c.lockstep_is_beside.ensures.beside in
-    let law = c.writes_are_unseen.ensures in
-    let rests = put-rests side law c.args.runner.now begins c.args.own.now c.args.block.now c.requires.run (c.in_ok-put_in.ensures.state c.requires.run.put) in
-    ran-some c.args.runner.now c.run_block.new.runner c.args.own.now c.args.block.now (fault_of c.args.fault) c.in_ok-end.end c.run_block.new.told c.steps_within.result c.process_steps.result
-    (λ of.
-    ran-block side law c.args.runner.now begins c.args.own.now c.args.block.now of (c.in_ok-put_in.ensures.state of.put) c.run_block.new.runner (fault_of c.args.fault) c.args.most c.in_ok-end.end
-    c.run_block.new.told c.process_steps.result c.in_ok-put_in.ensures.machine goes c.in_ok-end.ensures.one
-    (process-counted (machine_of begins) (state_of begins) c.args.most c.in_ok-end.end c.run_block.new.runner c.run_block.new.told c.first_lane-lane.result c.process_steps.result rests
-    c.first_lane-lane.ensures c.in_ok-end.ensures.one c.process_steps.ensures goes))
+    let ended = map process_number c.run_block.new.beside.ended.items in
+    let more = drop (length c.args.tried.now.items) c.run_block.new.tried.items in
+    let phase = c.args.goods.now.phase in
+    ran-some c.args.runner.now c.run_block.new.runner c.args.own.now c.args.block.now (fault_of c.args.fault) c.in_ok-end.end c.run_block.new.told c.steps_within.result c.args.goods.now phase ended more
+    (λ of runs numbers tells taken ran steps.
+    let put = c.in_ok-put_in.ensures.state of.put in
+    let beside = tells-put c.args.runner.now begins (fault_of c.args.fault) runs numbers c.args.goods.now c.in_ok-put_in.ensures.machine
+    (ap (λ (s : State). s.time) put.rest ∙ sym of.put.makes.lockstep.time) tells in
+    ran-block c.lockstep_is_beside.ensures.beside c.writes_are_unseen.ensures c.args.runner.now begins c.args.own.now c.args.block.now of put c.own_runs.ensures.steps c.run_block.new.runner
+    (fault_of c.args.fault) c.args.most c.in_ok-end.end c.run_block.new.told runs numbers phase more c.in_ok-put_in.ensures.machine goes c.in_ok-end.ensures.one
+    (c.in_ok-end.ensures.own goes runs numbers beside) taken ended ran steps (c.in_ok-end.ensures.ended goes ran))
     c.steps_within.ensures.end c.steps_within.ensures.steps
 
 pub returns-clause-ticks : goal.returns-clause-ticks
-returns-clause-ticks g c =
-    let begins = c.put_in.new.runner in
-    let goes = c.in_ok-end.ensures.goes in
-    let rests = put-rests c.lockstep_is_beside.ensures.beside c.writes_are_unseen.ensures c.args.runner.now begins c.args.own.now c.args.block.now c.requires.run
-    (c.in_ok-put_in.ensures.state c.requires.run.put) in
-    c.in_ok-end.ensures.ticks goes
-    ∙ ap (λ n. raised_by n c.args.steps.now)
-    (process-counted (machine_of begins) (state_of begins) c.args.most c.in_ok-end.end c.run_block.new.runner c.run_block.new.told c.first_lane-lane.result c.process_steps.result rests
-    c.first_lane-lane.ensures c.in_ok-end.ensures.one c.process_steps.ensures goes)
+returns-clause-ticks g c = record { more = drop (length c.args.tried.now.items) c.run_block.new.tried.items; are = c.in_ok-end.ensures.tried; ticks = c.in_ok-end.ensures.ticks }
 
 pub returns-clause-most : goal.returns-clause-most
-returns-clause-most g c = λ of.
+returns-clause-most g c = λ of runs numbers tells.
     let begins = c.put_in.new.runner in
     let goes = c.in_ok-end.ensures.goes in
-    let side = c.lockstep_is_beside.ensures.beside in
-    let law = c.writes_are_unseen.ensures in
     let put = c.in_ok-put_in.ensures.state of.put in
-    let rests = put-rests side law c.args.runner.now begins c.args.own.now c.args.block.now of put in
-    ran-within side law c.args.runner.now begins c.args.own.now c.args.block.now of put c.run_block.new.runner (fault_of c.args.fault) c.args.most c.in_ok-end.end c.run_block.new.told
-    c.process_steps.result c.in_ok-put_in.ensures.machine goes c.in_ok-end.ensures.one
-    (process-counted (machine_of begins) (state_of begins) c.args.most c.in_ok-end.end c.run_block.new.runner c.run_block.new.told c.first_lane-lane.result c.process_steps.result rests
-    c.first_lane-lane.ensures c.in_ok-end.ensures.one c.process_steps.ensures goes) c.in_ok-end.ensures.few
+    let more = drop (length c.args.tried.now.items) c.run_block.new.tried.items in
+    let phase = c.args.goods.now.phase in
+    let beside = tells-put c.args.runner.now begins (fault_of c.args.fault) runs numbers c.args.goods.now c.in_ok-put_in.ensures.machine
+    (ap (λ (s : State). s.time) put.rest ∙ sym of.put.makes.lockstep.time) tells in
+    ran-within c.lockstep_is_beside.ensures.beside c.writes_are_unseen.ensures c.args.runner.now begins c.args.own.now c.args.block.now of put c.own_runs.ensures.steps c.run_block.new.runner
+    (fault_of c.args.fault) c.args.most c.in_ok-end.end c.run_block.new.told runs numbers phase more c.in_ok-put_in.ensures.machine goes c.in_ok-end.ensures.one
+    (c.in_ok-end.ensures.own goes runs numbers beside) c.in_ok-end.ensures.few

@@ -1,9 +1,9 @@
 -- A fault that still goes, and whose stop isn't ahead, takes a block of its own.
-use Rattle.std.proofs.Common.{◌≤◌, refl, sym, ap, subst, ◌∙◌, arith}
+use Rattle.std.proofs.Common.{◌≤◌, length, refl, sym, ap, subst, ◌∙◌, arith}
 use Rattle.std.proofs.lemmas.Bool.{false≢true}
 use Rattle.v_design.specs.Plain.{fault_of}
 use Rattle.lockstep_turn.specs.graded_steps.Behind.{RisesWithin}
-use Rattle.lockstep_turn.specs.lockstep_block.Blocks.{FaultGoes}
+use Rattle.lockstep_turn.specs.lockstep_block.Blocks.{FaultGoes, TriedInSlot}
 use Rattle.lockstep_turn.specs.lockstep_block.Rooms.{MayStandThere}
 use Rattle.lockstep_turn.specs.lockstep_room.Rooms.{AreCounts}
 use Rattle.lockstep_turn.specs.lockstep_slots.Places.{behind_events}
@@ -11,7 +11,7 @@ use Rattle.lockstep_turn.specs.moment_laws.Places.{IsShownAt}
 use Rattle.lockstep_turn.specs.moment_laws.Shown.{MomentKept}
 use Rattle.lockstep_turn.proofs.slot_laws.Going.{are-processes, are-there}
 use Rattle.lockstep_turn.proofs.slot_laws.Own.{runner-stays}
-use Rattle.lockstep_turn.specs.phase_faults.Beside.{IsAheadIf, slot_steps_of}
+use Rattle.lockstep_turn.specs.phase_faults.Beside.{IsAheadIf}
 use Rattle.lockstep_turn.specs.phase_faults.declared.beside.FaultBeside.{FaultBeside}
 use Rattle.lockstep_turn.proofs.phase_faults.Moving.{stays-same}
 use Rattle.lockstep_turn.proofs.phase_faults.Waiting.{may-stand-at, waits-first}
@@ -45,10 +45,10 @@ look_ahead-requires-clause-kept g c κs within = λ goes.
     record {
       objects =
           are-there design plan (fault_of c.args.each.now.fault) of.slot of.begins window.before window.through behind.moment (behind_events of.block of.rest of.place) behind one.notes one.own
-          one.spare one.ticked of.beside.behind_at went;
+          one.spare one.tried.items one.apart.items of.beside.behind_at went;
       processes =
           are-processes design plan (fault_of c.args.each.now.fault) of.slot of.begins window.before window.through behind.moment (behind_events of.block of.rest of.place) behind one.notes one.own
-          one.spare one.ticked of.beside.behind_at went;
+          one.spare one.tried.items one.apart.items of.beside.behind_at went;
     }
 
 pub look_ahead-requires-clause-order : goal.look_ahead-requires-clause-order
@@ -147,10 +147,10 @@ returns-clause-own g c =
       took = λ now goes of.
           subst
           (λ (e : FaultBeside). FaultGoes design plan (fault_of c.args.each.now.fault) of.slot of.begins window.before window.through behind.moment (behind_events of.block of.rest of.place) e.one.notes
-          e.one.own e.one.spare e.one.ticked)
+          e.one.own e.one.spare e.one.tried.items e.one.apart.items)
           (sym looks.same) (c.in_ok-run_own_block.ensures.goes went of);
       most = λ now goes of.
-          subst (λ (e : FaultBeside). e.one.ticked ≤ slot_steps_of design c.args.each.now.fault of.begins) (sym looks.same) (c.in_ok-run_own_block.ensures.most of);
+          subst (λ (e : FaultBeside). TriedInSlot design (fault_of c.args.each.now.fault) of.slot of.begins e.one.tried.items) (sym looks.same) (c.in_ok-run_own_block.ensures.most of);
       ahead = λ now.
           subst (λ m. IsAheadIf design plan window.before window.through c.args.view.now.blocks.now.moments m c.args.end c.look_ahead.new.each)
           (c.moment-next.ensures ∙ ap (λ (m : MomentKept). m.moment) c.in_ok-run_own_block.ensures.room.behind_is) looks.ahead;
@@ -172,4 +172,4 @@ returns-then-not-branch-clause-ticks g c = c.in_ok-run_own_block.ensures.ticks
 
 pub returns-clause-ticks : goal.returns-clause-ticks
 returns-clause-ticks g c =
-    subst (λ (e : FaultBeside). RisesWithin c.args.each.now.one.ticked e.one.ticked c.args.steps.now c.run_own_block.new.steps) (sym c.look_ahead.ensures.same) c.in_ok-run_own_block.ensures.ticks
+    subst (λ (e : FaultBeside). RisesWithin (length c.args.each.now.one.tried.items) (length e.one.tried.items) c.args.steps.now c.run_own_block.new.steps) (sym c.look_ahead.ensures.same) c.in_ok-run_own_block.ensures.ticks

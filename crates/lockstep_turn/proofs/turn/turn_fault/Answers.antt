@@ -11,9 +11,10 @@ returns-then-not-each g c = record {
   fault = refl;
   goes = refl;
   spare = refl;
-  ticked = refl;
+  tried = refl;
   turns = λ still. (let no : ⊥ = cc in absurd no);
   cleared = λ still. (let no : ⊥ = cc in absurd no);
+  together = λ still. (let no : ⊥ = cc in absurd no);
 }
 
 pub returns : goal.returns
@@ -21,7 +22,8 @@ returns g c = record {
   fault = refl;
   goes = refl;
   spare = refl;
-  ticked = refl;
+  tried = refl;
   turns = λ still. c.in_ok-turn_all_writes.ensures;
+  together = λ still. c.clear-2.ensures;
   cleared = λ still. subst (λ n. HasNoNotes n c.clear.new.self) c.moment.ensures c.clear.ensures;
 }

@@ -1,4 +1,4 @@
-use Rattle.std.proofs.Common.{List, subst}
+use Rattle.std.proofs.Common.{List, sym, subst}
 use Rattle.std.specs.List.{AllZip}
 use Rattle.std.proofs.lemmas.List.{take_all}
 use Rattle.process_code.specs.RunEnds.{IsSameStep}
@@ -13,4 +13,5 @@ steps-preserved c =
 
 pub returns : goal.returns
 returns c =
-    subst (λ (l : List StepTaken). AllZip IsSameStep l c.steps.copies.items) (take_all c.steps.step-index c.args.steps.now c.steps-test.false) c.steps.invariant
+    subst (AllZip IsSameStep c.args.steps.now) (sym c.from_vec.ensures)
+    (subst (λ (l : List StepTaken). AllZip IsSameStep l c.steps.copies.items) (take_all c.steps.step-index c.args.steps.now c.steps-test.false) c.steps.invariant)

@@ -1,10 +1,8 @@
 -- Each grading that began is on its way, and the machine stands.
 use Rattle.std.specs.Prelude.{◌≡◌, map}
 use Rattle.vf_base.specs.Base.{watched_bit}
-use Rattle.v_design.specs.Designs.{faulty_machine}
 use Rattle.fault_strobes.specs.Said.{keeps}
 use Rattle.fault_strobes.specs.Shown.{said_of}
-use Rattle.graded_steps.specs.Behind.{steps_up_to}
 use Rattle.window_grade.specs.Running.{StaysOn}
 use Rattle.window_grade.specs.Grading.{CanGrade}
 use Rattle.window_grade.proofs.Through.{IsOnWay}
@@ -12,8 +10,8 @@ use Rattle.window_grade.proofs.strobes.grade_through.Given as goal
 
 abbrev pub invariant-strobes : goal.invariant-strobes
 invariant-strobes g l = record {
-  way : (of : CanGrade (map watched_bit l.watched) l.samples l.until l.fn.machine (said_of l.fn.strobed)) →
-      IsOnWay of.design of.plan of.fault of.later l.until l.sample-index l.samples (steps_up_to (faulty_machine of.design of.fault) of.now) l.fn.steps l.steps l.machine (said_of l.strobed);
+  way : (of : CanGrade (map watched_bit l.watched) l.samples l.until l.beside l.fn.machine (said_of l.fn.strobed)) →
+      IsOnWay of.design of.plan of.fault (keeps (said_of l.fn.strobed)) of.later l.until l.sample-index l.samples l.beside of.now l.fn.steps l.steps l.machine (said_of l.strobed);
   kind : keeps (said_of l.strobed) ≡ keeps (said_of l.fn.strobed);
-  stays : CanGrade (map watched_bit l.watched) l.samples l.until l.fn.machine (said_of l.fn.strobed) → StaysOn l.fn.machine l.machine;
+  stays : CanGrade (map watched_bit l.watched) l.samples l.until l.beside l.fn.machine (said_of l.fn.strobed) → StaysOn l.fn.machine l.machine;
 }

@@ -3,11 +3,20 @@ use Rattle.std.proofs.Common.{◌<◌, ◌∙◌, refl, sym, subst}
 use Rattle.vf_base.specs.Base.{process_number}
 use Rattle.machine.specs.Standing.{machine_kept, state_kept}
 use Rattle.machine_laws.specs.SlotLoop.{present_phase}
-use Rattle.machine.proofs.Events.{ready-there, ready-low, stepped-count, stepped-at, step-there, step-moved}
+use Rattle.machine.proofs.Events.{ready-there, ready-low, stepped-count, stepped-at, read-there, step-there, step-moved}
 use Rattle.machine.proofs.parts.Machine.process_step.Goals as goal
 
 pub step-requires-clause-ready : goal.step-requires-clause-ready
 step-requires-clause-ready g c = ready-there c.args.self.now (process_number c.args.process) c.requires.ready
+
+pub state_before-requires-clause-number : goal.state_before-requires-clause-number
+state_before-requires-clause-number g c =
+    let m = c.args.self.now in
+    subst (λ n. process_number c.args.process < n) (sym (stepped-count m m.table c.requires.moving.is.parts.table c.requires.moving.is.parts.design))
+    (ready-low m (process_number c.args.process) c.requires.moving c.requires.ready)
+
+pub note_run-requires-clause-there : goal.note_run-requires-clause-there
+note_run-requires-clause-there g c = read-there c.args.self.now c.requires.moving c.in_ok-stepped.stepped c.in_ok-stepped.ensures.reads
 
 pub note_run-requires-clause-process : goal.note_run-requires-clause-process
 note_run-requires-clause-process g c =
@@ -18,9 +27,9 @@ note_run-requires-clause-process g c =
     (ready-low m (process_number c.args.process) c.requires.moving c.requires.ready)
 
 pub note_run-requires-clause-room : goal.note_run-requires-clause-room
-note_run-requires-clause-room g c = λ on.
+note_run-requires-clause-room g c = λ some.
     let m = c.args.self.now in
-    (c.requires.moving.is.runs on).count
+    (c.requires.moving.is.runs (c.in_ok-before.ensures.noted some)).count
     ∙ sym (stepped-count m c.step.new.self c.in_ok-stepped.ensures.kept
     (c.in_ok-stepped.ensures.step (machine_kept m) (state_kept m) (record { design = c.requires.moving.is.parts.design; time = refl; processes = refl }) refl).after.design)
 
@@ -54,6 +63,6 @@ finish_step-requires-clause-there g c =
 
 pub returns-clause-goes_on : goal.returns-clause-goes_on
 returns-clause-goes_on g c =
-    step-moved c.slot_goes_on.ensures.step c.args.self.now _ (process_number c.args.process) c.number.result c.in_ok-stepped.stepped c.step.new.self c.requires.nodes c.requires.lanes
+    step-moved c.slot_goes_on.ensures.step c.args.self.now _ (process_number c.args.process) c.number.result c.in_ok-before.before c.in_ok-stepped.stepped c.step.new.self c.requires.nodes c.requires.lanes
     c.requires.ready c.in_ok-stepped.ensures.step
-    c.in_ok-finish_step.ensures refl c.number.ensures c.in_ok-note_run.ensures refl
+    c.in_ok-finish_step.ensures refl c.number.ensures c.in_ok-before.ensures.stands c.in_ok-note_run.ensures refl

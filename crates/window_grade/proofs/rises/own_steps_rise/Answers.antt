@@ -1,0 +1,6 @@
+-- The laws are proved in `Rises`.
+use Rattle.window_grade.proofs.Rises.{own_steps_rise}
+use Rattle.window_grade.proofs.rises.own_steps_rise.Goals as goal
+
+pub returns : goal.returns
+returns c = own_steps_rise c.own_steps_join.ensures c.slots_lie_between.ensures
