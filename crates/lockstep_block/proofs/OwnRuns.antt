@@ -47,7 +47,7 @@ use Rattle.lockstep_block.proofs.TriedThere.{kept-to}
 
 -- Lists
 
-at-length : {A : Type 0} (first : List A) (one : A) (rest : List A) → slice_get (first ++ one ∷ rest) (length first) ≡ Some one
+pub at-length : {A : Type 0} (first : List A) (one : A) (rest : List A) → slice_get (first ++ one ∷ rest) (length first) ≡ Some one
 at-length [] one rest = refl
 at-length (x ∷ first) one rest = at-length first one rest
 

@@ -16,7 +16,7 @@ ghost use Rattle.process_table.specs.Tables.{process_in};
 ghost use Rattle.slot_record.specs.SlotRecords.{one_more};
 ghost use Rattle.machine_events.specs.Alone.{AreOfOne, HappensTo};
 ghost use Rattle.machine_events.specs.Parts.{FitsDesign, AreBothOf, IsInSlot, Leads};
-ghost use Rattle.machine_events.specs.StepDeeds.{TellsQuiet, CarriesOut, IsMidStep, FinishesStep};
+ghost use Rattle.machine_events.specs.StepDeeds.{TellsQuiet, TellsStepTaken, CarriesOut, IsMidStep, FinishesStep};
 ghost use Rattle.machine_events.specs.There.{TouchesBelow, StepIsThere};
 
 use crate::notes::note_step;
@@ -183,6 +183,7 @@ pub fn step_alone<L: Ledger>(
     requires time { (table_of table.old).time ≤ 2 ^ 63 }
     requires there { StepIsThere (process_number process) nets.old table.old }
     ensures happens { IfOk result (λ stepped. HappensTo (Step (process_number process)) stepped.line nets.old nets.new table.old table.new told.new) }
+    ensures step { IfOk result (λ stepped. (machine : Machine) (state : State) → AreBothOf machine state nets.old table.old → TellsStepTaken machine state (process_number process) stepped) }
     ensures ticks { OnOk result (steps.new ≡ raised steps.old) }
 {
     let stepped = table.step(process, &*nets, steps)?;

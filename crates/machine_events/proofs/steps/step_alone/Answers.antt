@@ -6,7 +6,9 @@ use Rattle.v_design.specs.Designs.{FlatDesign}
 use Rattle.net_state.specs.States.{machine_in, values_in}
 use Rattle.machine_events.specs.Parts.{FitsDesign}
 use Rattle.machine_events.specs.There.{touches-there}
+use Rattle.v_design.specs.States.{step_of}
 use Rattle.process_table.specs.Deeds.{read_by}
+use Rattle.process_table.specs.Known.{told-act}
 use Rattle.machine_events.proofs.Recorded.{values-count, stepped-both, state_both, both-of, one-after}
 use Rattle.machine_events.proofs.steps.step_alone.Goals as goal
 
@@ -50,4 +52,12 @@ returns-clause-happens g c =
       fits = subst (λ (d : FlatDesign). FitsDesign d c.carry_out.new.told) (stepped.step.after.design ∙ sym c.requires.one.design) carries.fits;
       happens = λ machine state both. carries.happens machine state
           (stepped-both machine state nets table c.step.new.self (process_number c.args.process) c.in_ok-stepped.stepped both c.requires.ready c.in_ok-stepped.ensures.step);
+    }
+
+pub returns-clause-step : goal.returns-clause-step
+returns-clause-step g c = λ machine state both.
+    let of = c.in_ok-stepped.ensures.step machine state both.table_is (sym both.nets_are.values) in
+    record {
+      line = of.line;
+      act = told-act c.in_ok-stepped.stepped.act c.in_ok-stepped.stepped.later state.time (step_of machine state (process_number c.args.process)).action of.read of.write of.later;
     }

@@ -3,7 +3,7 @@ use Rattle.std.proofs.Common.{◌≡◌, sym, ap, subst}
 use Rattle.std.specs.Prelude.{Some, slice_get}
 use Rattle.between_slots.specs.Between.{window_phases}
 use Rattle.good_trace.specs.Traces.{WindowKept}
-use Rattle.good_trace.proofs.Beside.{runs-told}
+use Rattle.good_trace.proofs.Handing.{runs-told}
 use Rattle.good_trace.proofs.window.TraceWindow.phase_runs.Goals as goal
 
 pub returns : goal.returns
