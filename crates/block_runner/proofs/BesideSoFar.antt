@@ -41,7 +41,7 @@ use Rattle.block_runner.proofs.Growing.{nodes-more, other-more, own-more, ready-
 use Rattle.block_runner.proofs.Keeping.{behind-old, keeps-append, keeps-none, keeps-one}
 use Rattle.block_runner.proofs.Listed.{listed-more, row-other, row-own}
 use Rattle.block_runner.proofs.Runs.{nodes-quiet}
-use Rattle.block_runner.proofs.Next.{RowRun, row-run, tells-behind}
+use Rattle.block_runner.proofs.AtRuns.{RowRun, row-run, tells-behind}
 
 -- the same of a later state of the present time
 pub tells-later : (machine : Machine) (begins state : State) (runs : ℕ → List ProcessRun) (numbers : ℕ → ℕ) (kept : GoodPhase) → begins.time ≡ state.time →
