@@ -73,6 +73,10 @@ module _ (design : FlatDesign) (plan : TestPlan) (time : ℕ) (runner : Runner) 
       };
       goes = subst (λ (m : MomentKept). FaultGoes design plan fault of.slot of.begins from until m.moment of.place notes own spare tried apart) (sym waits.before_is) of.goes;
       early = of.early;
+      within = record {
+        before_is = ap (λ (m : MomentKept). m.before) waits.before_is ∙ of.within.before_is;
+        through_is = ap (λ (m : MomentKept). m.through) waits.before_is ∙ of.within.through_is;
+      };
     }
 
     -- what one did since is what it did from the first on
