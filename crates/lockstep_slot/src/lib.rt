@@ -11,7 +11,5 @@ mod enter;
 mod slot;
 
 pub use enter::{enter_slot, rests};
-pub use lockstep_phase::{
-    FaultBeside, FaultInSlot, LockstepRoom, LockstepWindow, NextTouches,
-};
+pub use lockstep_phase::{FaultBeside, FaultInSlot, LockstepRoom, LockstepWindow, NextTouches};
 pub use slot::all_through_slot;
