@@ -2,8 +2,7 @@
 
 ghost use Rattle.std.specs.Prelude.{◌≡◌, ◌<◌, ◌≤◌, sum_by, [], All, IfOk, OnErr, OnOk, length, map};
 ghost use Rattle.vf_base.specs.Base.{fault_number};
-ghost use Rattle.v_design.specs.WellFormed.{KeepsRules};
-ghost use Rattle.shard_windows.specs.graded_steps.Behind.{RisesTwice};
+ghost use Rattle.own_gradings.specs.Numbers.{OwnStepsOf, RisesOwn};
 ghost use Rattle.kept_shard.specs.Keeping.{KeepsAll, StandsKept, fresh_keeping, full_steps_at, kept_steps_of, numbers_of};
 
 use crate::samples::{kept_fresh, swap_each};
@@ -101,7 +100,6 @@ impl<N: World> KeptShard<N> {
         ensures ticks { OnOk result (RisesOwn N.design N.plan (λ tally. kept_steps_of tally self.old) (λ tally. kept_steps_of tally self.new) steps.old steps.new) }
         ensures err { OnErr result (self.new ≡ record self.old { kept = [] }) }
     {
-        beside_laws::good_run_goes_on();
         let trace = window.window();
         let _first = trace.begins();
         let mut faults = mem::replace(&mut self.faults, Vec::new(alloc));
@@ -145,16 +143,16 @@ impl<N: World> KeptShard<N> {
     }
 
     /// What is kept of each fault of a shard is its full grade as far as it goes up to the time of the slots that the shard has gone through; once the good first run is through it is
-    /// the whole one; and so far its faults have taken no more process steps than they take in all. The function does nothing when it runs; its contract is the law.
+    /// the whole one; and so far its faults have taken no more own steps than they take in all. The function does nothing when it runs; its contract is the law.
     pub fn stands(&self)
         ensures kept { StandsKept N.design N.plan self.now }
         ensures whole { KeepsAll N.design N.plan self.now }
-        ensures steps { KeepsRules N.design → kept_steps_of N.design N.plan self.now ≤ sum_by (full_steps_at N.design N.plan) (numbers_of self.now.kept) }
+        ensures steps { (tally : OwnStepsOf N.design N.plan) → kept_steps_of tally self.now ≤ sum_by (full_steps_at tally) (numbers_of self.now.kept) }
     {
         beside_laws::good_run_goes_on();
         fault_strobes::strobed_gradings_go_on();
         fault_strobes::full_grades_reach();
-        shard_windows::gradings_take_steps();
+        own_gradings::own_steps_rise();
         let _count = self.faults.len();
     }
 }

@@ -1,13 +1,13 @@
 -- The own steps of faults from slot to slot of the good first run (steps by IEEE 1364-2001, clause 9; slots by clause 5).
-use Rattle.std.specs.Prelude.{◌≡◌, ℕ, ◌+◌, ◌≤◌, Bool, true, List, ◌∷◌, [], ◌++◌, Option, Some, slice_get, sum}
-use Rattle.std.specs.List.{AllZip}
+use Rattle.std.specs.Prelude.{◌≡◌, ℕ, ◌+◌, ◌≤◌, Bool, true, List, ◌∷◌, [], ◌++◌, Option, Some, slice_get, sum, sum_by}
+use Rattle.std.specs.List.{AllZip, Contains}
 use Rattle.v_design.specs.Designs.{FlatDesign, StuckAt, TestPlan, good_machine, faulty_machine}
 use Rattle.v_design.specs.Runs.{FirstSlot, first_run}
 use Rattle.v_design.specs.OwnSteps.{CountsOwn, ProcessRun, TakesOwnSteps, slot_beside}
 use Rattle.v_design.specs.WellFormed.{KeepsRules}
 use Rattle.copy_laws.specs.Windows.{HasEnded, RiseAtMostOwn, comes_after, comes_by, runs_between, time_at}
 use Rattle.fault_strobes.specs.Said.{plan_by}
-use Rattle.own_gradings.specs.Numbers.{OwnStepsOf}
+use Rattle.own_gradings.specs.Numbers.{OwnStepsOf, TakesOwn}
 
 -- no number is greater than what some runs count as own
 abbrev pub AreAtLeast : List (Option ProcessRun × ProcessRun) → ℕ → Type 0
@@ -36,6 +36,10 @@ pub record OwnStepsRise : Type 0 where
       own.steps number kept gone ≤ own.all number kept
   pub total : (design : FlatDesign) (plan : TestPlan) (own : OwnStepsOf design plan) (number : ℕ) (fault : StuckAt) (kept : Bool) (steps : ℕ) → slice_get plan.faults number ≡ Some fault →
       TakesOwnSteps design (plan_by kept plan) fault steps → own.all number kept ≡ steps
+  -- so are those of several listed faults
+  pub sums : (design : FlatDesign) (plan : TestPlan) (own : OwnStepsOf design plan) (kept : Bool) (numbers steps : List ℕ) →
+      ((number : ℕ) → Contains numbers number → (fault : StuckAt) × (slice_get plan.faults number ≡ Some fault)) → AllZip (TakesOwn design plan kept) numbers steps →
+      sum_by (λ (number : ℕ). own.all number kept) numbers ≡ sum steps
   -- there are such numbers, as far as any bound is concerned
   pub exist : (design : FlatDesign) (plan : TestPlan) (low high : ℕ) → (OwnStepsOf design plan → low ≤ high) → low ≤ high
   -- a slot of a stretch, not after the end of the grading: what it counts at least the stretch does

@@ -78,7 +78,7 @@ returns-clause-numbers g c =
     (ap (λ (k : KeepingShard). k.kept) c.self.view_is)
 
 pub returns-clause-ticks : goal.returns-clause-ticks
-returns-clause-ticks g c =
+returns-clause-ticks g c tally =
     let s = c.self.inside in
     let design = g.N.World.design in
     let plan = g.N.World.plan in
@@ -87,6 +87,6 @@ returns-clause-ticks g c =
     went-rises design plan s.gone c.args.window.now.before at s.reached s.faults.items c.replace-faults.result.items
     (λ i. (c.replace-faults.ensures.value i).items) s.kept.items c.replace-kept.result.items (λ i. (c.replace-kept.ensures.value i).items) c.self.invariant c.swap_each.new.faults.items
     c.swap_each.new.kept.items c.swap_each.ensures c.args.window.now.through c.in_ok-reached.reached c.advance_all.new.faults.items c.in_ok-reached.ensures.faults
-    c.in_ok-reached.ensures.reached c.args.window.now.ending window c.swap_each-2.new.faults.items c.swap_each-2.new.kept.items c.swap_each-2.ensures c.good_run_goes_on.ensures c.args.self.now
+    c.in_ok-reached.ensures.reached c.args.window.now.ending window c.swap_each-2.new.faults.items c.swap_each-2.new.kept.items c.swap_each-2.ensures tally c.args.self.now
     c.ends-self-inside.result c.args.steps.now c.advance_all.new.steps c.self.view_is (c.ends-self-inside.ensures.number ∙ ap (λ (w : WindowKept). w.through) c.window-trace.ensures)
-    c.in_ok-reached.ensures.ticks
+    (c.in_ok-reached.ensures.ticks tally)
