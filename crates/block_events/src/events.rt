@@ -24,11 +24,12 @@ use process_code::{ProcState, StepAct};
 use std::sync::ledger::Ledger;
 use vf_base::{NoMemory, NodeId, ProcId, Steps};
 
-/// A step that a process took: the line of its statement, and what it did.
-#[derive(Clone, Copy, Debug)]
+/// A step that a process took: the line of its statement, what it did, and where the process stands behind it.
+#[derive(Drop)]
 pub struct TakenStep {
     pub line: u32,
     pub act: StepAct,
+    pub state: ProcState,
 }
 
 impl<'d> Runner<'d> {
@@ -75,7 +76,7 @@ impl<'d> Runner<'d> {
         Ok(false)
     }
 
-    /// The least ready process takes a step, where no node has work and no lane has an update; `steps` ticks once. It answers the line of its statement, and what it did. Each process is still
+    /// The least ready process takes a step, where no node has work and no lane has an update; `steps` ticks once. It answers the step. Each process is still
     /// to write objects of the design alone, and so it is behind the step (`race_laws::writes_stay`).
     ///
     /// # Errors
@@ -102,7 +103,7 @@ impl<'d> Runner<'d> {
         machine_laws::phases_go_on();
         copy_laws::moves();
         race_laws::writes_stay();
-        let stepped = step_alone(
+        let step = step_alone(
             &mut self.nets,
             &mut self.table,
             &mut self.told,
@@ -114,8 +115,9 @@ impl<'d> Runner<'d> {
         told.count_step(process, begins)?;
         told.add_step(&self.told)?;
         Ok(TakenStep {
-            line: stepped.line,
-            act: stepped.kept_act(),
+            line: step.stepped.line,
+            act: step.stepped.kept_act(),
+            state: step.state,
         })
     }
 
@@ -157,8 +159,8 @@ impl<'d> Runner<'d> {
             next,
         )?;
         let ready = self.table.is_ready(process);
-        let begins = note_step(&mut self.running, process, ready)?;
-        told.count_step(process, begins)?;
+        let first = note_step(&mut self.running, process, ready)?;
+        told.count_step(process, first)?;
         told.add_step(&self.told)?;
         Ok(())
     }

@@ -11,14 +11,14 @@ use vf_base::{NoMemory, ProcId};
 /// A run of a process that goes on: how many of its steps were taken, and whether it goes as the good machine's of its number.
 #[derive(Clone, Copy, Debug)]
 pub struct RunBeside {
-    pub taken: u32,
+    pub taken: u64,
     pub follows: bool,
 }
 
 /// A process in a block: how many of its runs ended in it, and the run that goes on, if one does.
 #[derive(Clone, Copy, Debug)]
 pub struct ProcessBeside {
-    pub ended: u32,
+    pub ended: u64,
     pub going: Option<RunBeside>,
 }
 

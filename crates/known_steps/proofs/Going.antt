@@ -64,6 +64,23 @@ module _ (machine : Machine) (state : State) (process : ℕ) (good : ProcessRun)
     all-at (λ (step : StepTaken). IsStateOf code step.state) found.steps 0 one (tells.stand code is).1 at,
   )
 
+  -- a run without steps is no other's
+  stepless : (run : ProcessRun) (steps : List StepSeen) → good.steps ≡ steps → slice_get found.steps 0 ≡ None → AllCount (Some good) (run_behind machine state process run)
+  stepless run [] none at more own (inl shared) =
+      let seen = seen_step machine state process in
+      let same : good ≡ gone_on (gone_on run (seen ∷ [])) more = same_Some good (gone_on (gone_on run (seen ∷ [])) more) shared.0 in
+      let short : length good.steps ≡ 0 = ap length none in
+      let long : length good.steps ≡ length ((run.steps ++ seen ∷ []) ++ more) = ap (λ (r : ProcessRun). length r.steps) same in
+      let parts : length ((run.steps ++ seen ∷ []) ++ more) ≡ length (run.steps ++ seen ∷ []) + length more = length-append (run.steps ++ seen ∷ []) more in
+      let one : length (run.steps ++ seen ∷ []) ≡ length run.steps + 1 = length_push run.steps seen in
+      absurd (omega (arith, short, long, parts, one))
+  stepless run [] none at more own (inr all) = all.1
+  stepless run (other ∷ rest) steps at more own counted =
+      let told : slice_get (steps_told state.time good.begins (other ∷ rest)) 0 ≡ None =
+      ap (λ (l : List StepSeen). slice_get (steps_told state.time good.begins l) 0) (sym steps)
+      ∙ kept-at (step_told_by tells.code) found.steps (steps_told state.time good.begins good.steps) 0 (told-steps tells.code tells.is_code) ∙ ap (option_map (step_told_by tells.code)) at in
+      absurd (let clash : Some (step_told state.time good.begins other) ≡ None = told in cc)
+
   module _ (run : ProcessRun) (in_run : IsInRun machine state process run) (follows : Following good run) where
     -- the step of the place, and what is told of it
     told-here : (code : Code) → IsCodeAt machine.design process code → (place : ℕ) → slice_get (steps_told state.time run.begins (run.steps ++ follows.later)) place ≡
@@ -248,6 +265,7 @@ known_steps_go_on counts = record {
   known = λ machine state process run good found line act next tells in_run follows is.
       known machine state process good found tells run in_run (following good run follows) line act next is;
   parts = λ machine state process run good found tells in_run follows at. parts machine state process good found tells run in_run (following good run follows) counts at;
+  stepless = λ machine state process run good found tells at. stepless machine state process good found tells run good.steps refl at;
   alone = λ run. alone-counts run counts;
   other = λ good run differ. begun-counts good run counts differ;
   stays = stays;

@@ -58,7 +58,10 @@ pub record KnownStepsGoOn : Type 0 where
   -- where they part, all its steps count
   pub parts : (machine : Machine) (state : State) (process : ℕ) (run good : ProcessRun) (found : RunEnd) → TellsRunHere machine state process good found →
       IsInRun machine state process run → FollowsSoFar (Some good) run → PartsAt state.values found (length run.steps) → AllCount (Some good) (run_behind machine state process run)
-  -- so do those of a run of which the good machine has none, and of one that begins otherwise
+  -- so do those where the run found has no steps at all
+  pub stepless : (machine : Machine) (state : State) (process : ℕ) (run good : ProcessRun) (found : RunEnd) → TellsRunHere machine state process good found →
+      slice_get found.steps 0 ≡ None → AllCount (Some good) (run_behind machine state process run)
+  -- and those of a run of which the good machine has none, and of one that begins otherwise
   pub alone : (run : ProcessRun) → AllCount None run
   pub other : (good run : ProcessRun) → good.begins ≢ run.begins → AllCount (Some good) run
   -- and they count still, however it goes on

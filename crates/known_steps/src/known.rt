@@ -42,8 +42,8 @@ fn reads_alike<V: Values>(values: &V, step: &StepTaken) -> bool
     same_read(read, step.read)
 }
 
-/// The step of a place in a run, if it has one.
-fn step_at<'r>(run: &'r RunEnd, place: usize) -> Option<&'r StepTaken>
+/// The step of a place in a run that has ended, if it has one.
+pub fn step_at<'r>(run: &'r RunEnd, place: usize) -> Option<&'r StepTaken>
     ensures { option_map (λ step. step.now) result ≡ slice_get run.now.steps place }
 {
     let steps = run.steps.as_slice();

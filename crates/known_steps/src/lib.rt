@@ -9,5 +9,5 @@ mod known;
 mod laws;
 mod values;
 
-pub use known::{KnownStep, known_step};
+pub use known::{KnownStep, known_step, step_at};
 pub use laws::known_steps_go_on;

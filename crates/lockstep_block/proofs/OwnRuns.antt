@@ -232,7 +232,7 @@ module _ {design : FlatDesign} {plan : TestPlan} {fault : StuckAt} {from until :
   module _ (events : List Event) (block : AreBlock (faulty_machine design fault) of.goes.at.state events) (own_ended good_ended : List ℕ)
       (own_is : (process : ℕ) → length (runs_of (steps_in (faulty_machine design fault) process of.goes.at.state events)) ≡ times_of process own_ended)
       (good_is : good_ended ≡ enders_in (good_machine design) (state_there (good_machine design) of.place) of.block) (later : List RunApart) (noted : NotesEnded apart later own_ended good_ended) where
-    machine : Machine
+    abbrev machine : Machine
     machine = faulty_machine design fault
 
     ends : IsBetweenRuns machine (happened machine of.goes.at.phase_begins of.goes.at.events) events

@@ -71,7 +71,7 @@ wait-below limit place condition body tasks false = tt
 statement-below : (limit now : ℕ) (operands : List LogicValue) (statement : Statement) (tasks : List Task) → AreBelow limit (named_by statement) →
     StepReads limit (statement_step now operands statement tasks)
 statement-below limit now operands Null tasks h = tt
-statement-below limit now operands (Block statements) tasks h = tt
+statement-below limit now operands (Block many) tasks h = tt
 statement-below limit now operands (If place condition first second) tasks h =
     reads-below (reads_most condition) limit _ _ operands (read_expression condition operands) _
     (bounds-expression limit condition operands (left _ (named_in condition) (named_by first ++ named_by second) h)) (λ value. tt)

@@ -72,7 +72,7 @@ impl<'d> ProcessTable<'d> {
         requires kept { IsKept self.now }
         ensures { result ≡ length (table_of self.now).design.processes }
     {
-        self.rows.len()
+        self.design.processes.as_slice().len()
     }
 
     /// The ready process with the least number.
