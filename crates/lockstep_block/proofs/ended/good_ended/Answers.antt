@@ -14,7 +14,7 @@ runs_in-runs-requires g c κs within =
     omega (arith, low, from, to, slot)
 
 pub slice_bounds-ended-start : goal.slice_bounds-ended-start
-slice_bounds-ended-start g c = 
+slice_bounds-ended-start g c =
     let is = c.requires.shown in
     let w = c.args.window.now in
     let told = ended-told g.N.World.design g.N.World.plan w.before w.through c.slot-slot.result is.place is.block is.rest c.args.before.now c.args.behind.now c.runs_in-runs.result.now is.within
@@ -26,7 +26,7 @@ slice_bounds-ended-start g c =
     omega (arith, inside, from, to, c.if-to_le_from.false)
 
 pub slice_bounds-ended-count : goal.slice_bounds-ended-count
-slice_bounds-ended-count g c = 
+slice_bounds-ended-count g c =
     let is = c.requires.shown in
     let w = c.args.window.now in
     let told = ended-told g.N.World.design g.N.World.plan w.before w.through c.slot-slot.result is.place is.block is.rest c.args.before.now c.args.behind.now c.runs_in-runs.result.now is.within
