@@ -3,10 +3,16 @@ use Rattle.std.specs.Prelude.{◌≡◌, ◌≤◌, ◌<◌, ◌+◌, ◌-◌, �
 use Rattle.vf_base.specs.Base.{process_number}
 use Rattle.vf_base.specs.Lists.{AllHold, has}
 use Rattle.v_design.specs.Designs.{Machine}
-use Rattle.v_design.specs.States.{State, Event, Step, LaneStep, Evaluation, NetUpdate, process_at, is_ready, is_process_event}
+use Rattle.v_design.specs.States.{State, Event, Step, LaneStep, Evaluation, NetUpdate, next_activity, process_at, step_of, is_ready, is_process_event}
 use Rattle.v_design.specs.Runs.{happened}
 use Rattle.machine_laws.specs.SlotLoop.{NoNodeWorks}
 use Rattle.copy_laws.specs.Beside.{AreFirst}
+use Rattle.process_code.specs.Points.{activity_of}
+use Rattle.process_code.specs.RunEnds.{act_by, act_of}
+use Rattle.process_code.specs.StatesOf.{IsStateOf}
+use Rattle.process_code.specs.declared.code.Code.{Code}
+use Rattle.run_ends.specs.RunEnds.{IsCodeAt}
+use Rattle.block_events.specs.declared.events.TakenStep.{TakenStep}
 use Rattle.block_events.specs.declared.runner.Runner.{Runner}
 use Rattle.block_told.specs.declared.told.BlockTold.{BlockTold}
 use Rattle.block_events.specs.Runners.{machine_of, state_of, IsWhole}
@@ -55,6 +61,14 @@ pub record StepsOn (process : ℕ) (old new : Runner) (told_old told_new : Block
   pub count : told_new.steps ≡ told_old.steps + 1
   pub tells : (is_innermost (running_of old.running.items) process ≡ true → has (map process_number told_old.stepped.items) process ≡ true) →
       TellsMore (machine_of old) (state_of old) (Step process ∷ []) told_old told_new
+
+-- the step that a process takes next in a state, as it was taken: its line, what it did, and where the process stands behind it
+pub record IsTakenStep (machine : Machine) (state : State) (process : ℕ) (taken : TakenStep) : Type 0 where
+  pub line : taken.line ≡ (step_of machine state process).line
+  pub act : act_by taken.act ≡ act_of state.time (step_of machine state process).action
+  pub stands : (code : Code) → IsCodeAt machine.design process code → IsStateOf code taken.state
+  pub does : (code : Code) → IsCodeAt machine.design process code →
+      activity_of code taken.state ≡ next_activity state.values (step_of machine state process).action (step_of machine state process).next
 
 -- a step of a lane, the first event of a block
 pub record LaneStepsOn (process : ℕ) (old new : Runner) (told : BlockTold) : Type 0 where

@@ -9,15 +9,28 @@ ghost use Rattle.v_design.specs.WellFormed.{KeepsRules};
 ghost use Rattle.race_laws.specs.Writes.{WritesAreOf};
 ghost use Rattle.machine_laws.specs.SlotLoop.{NoNodeWorks, first_lane, first_ready};
 ghost use Rattle.net_state.specs.States.{nodes_in};
+ghost use Rattle.process_code.specs.StatesOf.{IsStateOf};
+ghost use Rattle.process_code.specs.declared.code.Code.{Code};
+ghost use Rattle.run_ends.specs.RunEnds.{IsCodeAt};
+ghost use Rattle.process_table.specs.Known.{IsKnownStep};
 ghost use Rattle.block_events.specs.Runners.{IsWhole, machine_of, state_of};
 ghost use Rattle.block_told.specs.Tells.{IsUntold};
-ghost use Rattle.block_events.specs.Going.{WorksOn, Settles, StepsOn, LaneStepsOn, node_events};
+ghost use Rattle.block_events.specs.Going.{IsTakenStep, WorksOn, Settles, StepsOn, LaneStepsOn, node_events};
 
 use crate::runner::Runner;
 use block_told::{BlockTold, note_step};
-use machine_events::{lane_alone, node_alone, step_alone};
+use machine_events::{follow_alone, lane_alone, node_alone, step_alone};
+use process_code::{ProcState, StepAct};
 use std::sync::ledger::Ledger;
 use vf_base::{NoMemory, NodeId, ProcId, Steps};
+
+/// A step that a process took: the line of its statement, what it did, and where the process stands behind it.
+#[derive(Drop)]
+pub struct TakenStep {
+    pub line: u32,
+    pub act: StepAct,
+    pub state: ProcState,
+}
 
 impl<'d> Runner<'d> {
     /// The least node with work is evaluated, and its nets get the values, behind a step of a process in a line.
@@ -63,7 +76,7 @@ impl<'d> Runner<'d> {
         Ok(false)
     }
 
-    /// The least ready process takes a step, where no node has work and no lane has an update; `steps` ticks once. It answers the line of its statement. Each process is still
+    /// The least ready process takes a step, where no node has work and no lane has an update; `steps` ticks once. It answers the step. Each process is still
     /// to write objects of the design alone, and so it is behind the step (`race_laws::writes_stay`).
     ///
     /// # Errors
@@ -74,7 +87,7 @@ impl<'d> Runner<'d> {
         process: ProcId,
         told: &mut BlockTold,
         steps: &mut Steps<L>,
-    ) -> Result<u32, NoMemory>
+    ) -> Result<TakenStep, NoMemory>
         requires whole { IsWhole self.old }
         requires nodes { NoNodeWorks (state_of self.old) }
         requires lanes { first_lane (state_of self.old) ≡ None }
@@ -84,12 +97,13 @@ impl<'d> Runner<'d> {
         requires rules { KeepsRules (machine_of self.old).design }
         requires writes { WritesAreOf (machine_of self.old).design (state_of self.old) }
         ensures goes { OnOk result (StepsOn (process_number process) self.old self.new told.old told.new) }
+        ensures step { IfOk result (λ taken. IsTakenStep (machine_of self.old) (state_of self.old) (process_number process) taken) }
         ensures ticks { OnOk result (steps.new ≡ raised steps.old) }
     {
         machine_laws::phases_go_on();
         copy_laws::moves();
         race_laws::writes_stay();
-        let stepped = step_alone(
+        let step = step_alone(
             &mut self.nets,
             &mut self.table,
             &mut self.told,
@@ -100,7 +114,55 @@ impl<'d> Runner<'d> {
         let begins = note_step(&mut self.running, process, ready)?;
         told.count_step(process, begins)?;
         told.add_step(&self.told)?;
-        Ok(stepped.line)
+        Ok(TakenStep {
+            line: step.stepped.line,
+            act: step.stepped.kept_act(),
+            state: step.state,
+        })
+    }
+
+    /// The least ready process takes a step that is known, where no node has work and no lane has an update: it does what the step does, and stands then at a state, which may be one of any code of
+    /// the process. Its code isn't run. Each process is still to write objects of the design alone, and so it is behind the step (`race_laws::writes_stay`).
+    ///
+    /// # Errors
+    ///
+    /// Want of memory.
+    pub fn follow_step(
+        &mut self,
+        process: ProcId,
+        told: &mut BlockTold,
+        line: u32,
+        act: StepAct,
+        next: &ProcState,
+    ) -> Result<(), NoMemory>
+        requires whole { IsWhole self.old }
+        requires nodes { NoNodeWorks (state_of self.old) }
+        requires lanes { first_lane (state_of self.old) ≡ None }
+        requires ready { first_ready (state_of self.old) ≡ Some (process_number process) }
+        requires room { told.old.steps < 2 ^ 63 }
+        requires rules { KeepsRules (machine_of self.old).design }
+        requires writes { WritesAreOf (machine_of self.old).design (state_of self.old) }
+        requires stands { (code : Code) → IsCodeAt (machine_of self.old).design (process_number process) code → IsStateOf code next.now }
+        requires known { IsKnownStep (machine_of self.old) (state_of self.old) (process_number process) line act next.now }
+        ensures { OnOk result (StepsOn (process_number process) self.old self.new told.old told.new) }
+    {
+        machine_laws::phases_go_on();
+        copy_laws::moves();
+        race_laws::writes_stay();
+        follow_alone(
+            &mut self.nets,
+            &mut self.table,
+            &mut self.told,
+            process,
+            line,
+            act,
+            next,
+        )?;
+        let ready = self.table.is_ready(process);
+        let first = note_step(&mut self.running, process, ready)?;
+        told.count_step(process, first)?;
+        told.add_step(&self.told)?;
+        Ok(())
     }
 
     /// The least lane's first update is written, where no node has work. It is the first event of the block. It answers the line of its statement. Each process is still to

@@ -1,6 +1,6 @@
 // Parts of a runner's state are read and exchanged between two blocks.
 
-ghost use Rattle.std.specs.Prelude.{◌≡◌, ◌≤◌, ◌<◌, ◌↔◌, IsTrue, true, false, length, map, slice_set, IfOk, OnOk};
+ghost use Rattle.std.specs.Prelude.{◌≡◌, ◌≤◌, ◌<◌, ◌↔◌, IsTrue, ℕ, true, false, length, map, slice_set, IfOk, IfSome, OnOk};
 ghost use Rattle.std.specs.Option.{option_map};
 ghost use Rattle.vf_base.specs.Base.{object_number, process_number};
 ghost use Rattle.vf_base.specs.Lists.{AllHold, change_at};
@@ -8,13 +8,13 @@ ghost use Rattle.v_design.specs.Accesses.{is_waiting};
 ghost use Rattle.v_design.specs.Designs.{width_in};
 ghost use Rattle.v_design.specs.Plain.{due_of, fault_of, update_of};
 ghost use Rattle.v_design.specs.Runs.{turned_by};
-ghost use Rattle.v_design.specs.States.{ProcessState, LaterUpdate, has_event, process_at, some_in, turn_of};
+ghost use Rattle.v_design.specs.States.{ProcessState, LaterUpdate, has_event, is_ready, process_at, some_in, step_of, turn_of};
 ghost use Rattle.v_design.specs.Places.{PlacesDiffer};
 ghost use Rattle.process_code.specs.Points.{activity_of};
 ghost use Rattle.process_code.specs.StatesOf.{IsStateOf};
 ghost use Rattle.process_code.specs.declared.code.Code.{Code};
 ghost use Rattle.run_ends.specs.RunEnds.{IsCodeAt};
-ghost use Rattle.process_table.specs.Deeds.{turn_kind};
+ghost use Rattle.process_table.specs.Deeds.{read_of, turn_kind};
 ghost use Rattle.process_table.specs.Puts.{StandsAt};
 ghost use Rattle.process_table.specs.Waited.{body_of};
 ghost use Rattle.process_table.specs.Replaces.{process_readied, state_with, with_pending};
@@ -151,6 +151,58 @@ impl<'d> Runner<'d> {
             (process_number process)) → IsStateOf code state.now → (IsTrue result ↔ (process_at (state_of self.now) (process_number process)).activity ≡ activity_of code state.now) }
     {
         self.table.stands_at(process, state)
+    }
+
+    /// The same state, as a copy.
+    ///
+    /// # Errors
+    ///
+    /// Want of memory.
+    pub fn copy_state(&self, process: ProcId) -> Result<ProcState, NoMemory>
+        requires whole { IsWhole self.now }
+        requires number { process_number process < length (state_of self.now).processes }
+        ensures state { IfOk result (λ copy. (code : Code) → IsCodeAt (machine_of self.now).design (process_number process) code → IsStateOf code copy) }
+        ensures activity { IfOk result (λ copy. (code : Code) → IsCodeAt (machine_of self.now).design (process_number process) code →
+            activity_of code copy ≡ (process_at (state_of self.now) (process_number process)).activity) }
+    {
+        self.table.copy_state(process)
+    }
+
+    /// Whether a process is ready.
+    pub fn is_ready(&self, process: ProcId) -> bool
+        requires { IsWhole self.now }
+        ensures { result ≡ is_ready (process_at (state_of self.now) (process_number process)).activity }
+    {
+        self.table.is_ready(process)
+    }
+
+    /// How many processes there are.
+    pub fn processes(&self) -> usize
+        requires { IsWhole self.now }
+        ensures { result ≡ length (machine_of self.now).design.processes }
+    {
+        self.table.processes()
+    }
+
+    /// What a process reads next, if it reads, is an object of the design.
+    ///
+    /// It does nothing when it runs.
+    pub fn reads_are_there(&self)
+        requires { IsWhole self.now }
+        ensures { (process : ℕ) → IfSome (read_of (step_of (machine_of self.now) (state_of self.now) process).action) (λ object. object < length (state_of self.now).values) }
+    {
+        self.table.reads_are_there();
+    }
+
+    /// A process has a code.
+    ///
+    /// It does nothing when it runs.
+    pub fn has_code(&self, process: ProcId)
+        requires whole { IsWhole self.now }
+        requires number { process_number process < length (state_of self.now).processes }
+        ensures { (code : Code) × IsCodeAt (machine_of self.now).design (process_number process) code }
+    {
+        self.table.has_code(process);
     }
 
     /// Takes the turn that comes where no process has an event, and answers it; `None`, and no change, where there is none.

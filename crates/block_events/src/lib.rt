@@ -2,8 +2,8 @@
 //! clause 5).
 //!
 //! A `Runner` stands for a machine and a state of it. `take_lane` and `take_step` take the event of the first order where no node has work, `settle` those of nodes until
-//! none has. Main contract: each comes to the state behind its events, and where the events before them are told of a block, so are they. `put_value`, `put_process`,
-//! `put_updates` and `wake_process` exchange parts of the state, `clear` lets go of all processes, `set_fault` exchanges the fault, `updates_of`, `lane_of`, `state_of` and
+//! none has; `follow_step` takes a step that is known, without the process's code. Main contract: each comes to the state behind its events, and where the events before them are told of a block, so are they. `put_value`, `put_process`,
+//! `put_updates` and `wake_process` exchange parts of the state, `clear` lets go of all processes, `set_fault` exchanges the fault, `updates_of`, `lane_of`, `state_of`, `copy_state` and
 //! `stands_at` read the state, and `turn` takes a turn between two phases.
 #![tactic(auto)]
 
@@ -12,4 +12,5 @@ mod events;
 mod exchange;
 mod runner;
 
+pub use events::TakenStep;
 pub use runner::Runner;

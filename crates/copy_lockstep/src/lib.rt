@@ -6,7 +6,7 @@
 //! slot's time. A fault whose samples are kept isn't ended by strobes: those before the slot are only counted as it enters, and are seen as it leaves, with the copy that it
 //! had. The main contract: the fault stands as a fault of a shard does, behind the slots over which it was passed or through which it came, and behind the slot before which
 //! its grading ended; where the slot has to be run whole, it is as it was. The last slot of the good first run is always run whole, since with it the grading ends.
-//! `slots_take_steps` says that behind a slot that a fault entered, however it went there, its grading has taken the process steps of the faulty machine's slot.
+//! `slots_take_own` says that the steps that a fault took itself in a slot that it entered, however far it went there, are at most its own steps there.
 #![tactic(auto)]
 
 mod before;
@@ -22,11 +22,11 @@ pub use behind::leave_slot;
 pub use entered::{Entered, Entering};
 pub use last::end_of_lockstep;
 pub use lockstep_due::{
-    Machine, ShardFault, WindowStrobes, begin_fault, empty_log, gradings_take_steps, new_fault,
-    new_room, searches_begin, strobes_of,
+    Machine, ShardFault, WindowStrobes, begin_fault, empty_log, new_fault, new_room,
+    searches_begin, strobes_of,
 };
 pub use lockstep_slot::{
-    FaultBeside, LockstepRoom, LockstepWindow, NextTouches, all_through_slot, rests,
+    FaultBeside, FaultInSlot, LockstepRoom, LockstepWindow, NextTouches, all_through_slot, rests,
 };
 pub use reached::Reached;
-pub use steps::slots_take_steps;
+pub use steps::slots_take_own;

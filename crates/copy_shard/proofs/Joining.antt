@@ -6,7 +6,8 @@ use Rattle.std.proofs.lemmas.List.{get_or_append_left, get_or_push, length_push,
 use Rattle.std.proofs.lemmas.List.Sums.{sum_by-append, sum_by_push}
 use Rattle.vf_base.specs.Lists.{AllHold}
 use Rattle.v_design.specs.Designs.{FlatDesign, TestPlan}
-use Rattle.shard_windows.specs.graded_steps.Behind.{RisesTwice}
+use Rattle.own_gradings.specs.Numbers.{OwnStepsOf}
+use Rattle.shard_windows.specs.graded_steps.Behind.{RisesWithin}
 use Rattle.shard_windows.specs.window_strobes.Passed.{HasPassed}
 use Rattle.shard_windows.specs.copy_window.ShardFaults.{IsShardFault}
 use Rattle.shard_windows.specs.copy_window.declared.fault.ShardFault.{ShardFault}
@@ -97,20 +98,20 @@ module _ {N : Type 0} (design : FlatDesign) (plan : TestPlan) where
   no-shards through [] (new ∷ news) none also = absurd (omega (arith, also))
   no-shards through (old ∷ olds) news none also = absurd (omega (arith, none))
 
-  pub no-steps : (shards : List (ClaimedShard N)) → length shards ≡ 0 → claimed_steps design plan shards ≡ 0
-  no-steps [] none = refl
-  no-steps (shard ∷ shards) none = absurd (omega (arith, none))
+  pub no-steps : (tally : OwnStepsOf design plan) (shards : List (ClaimedShard N)) → length shards ≡ 0 → claimed_steps tally shards ≡ 0
+  no-steps tally [] none = refl
+  no-steps tally (shard ∷ shards) none = absurd (omega (arith, none))
 
 -- No faults
 
-pub no-faults : (design : FlatDesign) (plan : TestPlan) (gone : ℕ) (faults : List ShardFault) → faults ≡ [] → steps_of_faults design plan gone faults ≡ 0
-no-faults design plan gone faults none = ap (steps_of_faults design plan gone) none
+pub no-faults : (design : FlatDesign) (plan : TestPlan) (tally : OwnStepsOf design plan) (gone : ℕ) (faults : List ShardFault) → faults ≡ [] → steps_of_faults tally gone faults ≡ 0
+no-faults design plan tally gone faults none = ap (steps_of_faults tally gone) none
 
-pub none-behind : (design : FlatDesign) (plan : TestPlan) (through passed : ℕ) (olds news : List ShardFault) → olds ≡ [] → AllZip (ComesThrough design plan through passed) olds news →
-    steps_of_faults design plan through news ≡ 0
-none-behind design plan through passed [] [] none zip = refl
-none-behind design plan through passed [] (new ∷ news) none zip = absurd zip
-none-behind design plan through passed (old ∷ olds) news none zip = cc
+pub none-behind : (design : FlatDesign) (plan : TestPlan) (tally : OwnStepsOf design plan) (through passed : ℕ) (olds news : List ShardFault) → olds ≡ [] → AllZip (ComesThrough design plan through passed) olds news →
+    steps_of_faults tally through news ≡ 0
+none-behind design plan tally through passed [] [] none zip = refl
+none-behind design plan tally through passed [] (new ∷ news) none zip = absurd zip
+none-behind design plan tally through passed (old ∷ olds) news none zip = cc
 
 -- Faults behind so many slots
 
@@ -219,30 +220,31 @@ module _ (design : FlatDesign) (plan : TestPlan) (shard : ShardKept) (faults joi
     }
 
   -- its steps
-  before-steps : (before : ℕ) → shard.gone ≡ before → steps_of_faults design plan before joined ≡ steps_of_faults design plan before faults + shard_steps design plan shard
-  before-steps before at =
-      ap (steps_of_faults design plan before) joins.behind
-      ∙ sum_by-append (steps_of_fault design plan before) faults joins.part
-      ∙ ap (λ n. steps_of_faults design plan before faults + n)
-      (sym (sum_by-seen (kept_steps design plan before) joins.part) ∙ (λ i. sum_by (kept_steps design plan (sym at i)) (joins.seen i)))
+  module _ (tally : OwnStepsOf design plan) where
+    before-steps : (before : ℕ) → shard.gone ≡ before → steps_of_faults tally before joined ≡ steps_of_faults tally before faults + shard_steps tally shard
+    before-steps before at =
+        ap (steps_of_faults tally before) joins.behind
+        ∙ sum_by-append (steps_of_fault tally before) faults joins.part
+        ∙ ap (λ n. steps_of_faults tally before faults + n)
+        (sym (sum_by-seen tally before joins.part joins.judged) ∙ (λ i. sum_by (kept_steps tally (sym at i)) (joins.seen i)))
 
-  behind-steps : steps_of_faults design plan through new ≡ steps_of_faults design plan through (take first new) + sum_by (kept_steps design plan through) left
-  behind-steps =
-      ap (steps_of_faults design plan through) (sym (take-append-drop first new))
-      ∙ sum_by-append (steps_of_fault design plan through) (take first new) (drop first new)
-      ∙ ap (λ n. steps_of_faults design plan through (take first new) + n) (sym (sum_by-seen (kept_steps design plan through) (drop first new)))
+    behind-steps : steps_of_faults tally through new ≡ steps_of_faults tally through (take first new) + sum_by (kept_steps tally through) left
+    behind-steps =
+        ap (steps_of_faults tally through) (sym (take-append-drop first new))
+        ∙ sum_by-append (steps_of_fault tally through) (take first new) (drop first new)
+        ∙ ap (λ n. steps_of_faults tally through (take first new) + n) (sym (sum_by-seen tally through (drop first new) shard-behind.judged))
 
-  pub shards-rise : {N : Type 0} (before number gone : ℕ) (old less fewer came : List (ClaimedShard N)) (one other : ℕ) → shard.gone ≡ before → gone ≡ through →
-      old ≡ less ++ record { number = number; shard = shard } ∷ [] → came ≡ fewer ++ record { number = number; shard = record { gone = gone; faults = left } } ∷ [] →
-      RisesTwice (claimed_steps design plan less + steps_of_faults design plan before joined) (claimed_steps design plan fewer + steps_of_faults design plan through new) one other →
-      RisesTwice (claimed_steps design plan old + steps_of_faults design plan before faults) (claimed_steps design plan came + steps_of_faults design plan through (take first new)) one other
-  shards-rise {N} before number gone old less fewer came one other at gone_is old_is came_is rises =
-      let f = λ (claimed : ClaimedShard N). shard_steps design plan claimed.shard in
-      let a : claimed_steps design plan old ≡ claimed_steps design plan less + shard_steps design plan shard =
-      ap (claimed_steps design plan) old_is ∙ sum_by_push f less (record { number = number; shard = shard }) in
-      let b : claimed_steps design plan came ≡ claimed_steps design plan fewer + sum_by (kept_steps design plan through) left =
-      ap (claimed_steps design plan) came_is ∙ sum_by_push f fewer (record { number = number; shard = record { gone = gone; faults = left } })
-      ∙ ap (λ n. claimed_steps design plan fewer + sum_by (kept_steps design plan n) left) gone_is in
-      let c = before-steps before at in
-      let d = behind-steps in
-      omega (arith, a, b, c, d, rises)
+    pub shards-rise : {N : Type 0} (before number gone : ℕ) (old less fewer came : List (ClaimedShard N)) (one other : ℕ) → shard.gone ≡ before → gone ≡ through →
+        old ≡ less ++ record { number = number; shard = shard } ∷ [] → came ≡ fewer ++ record { number = number; shard = record { gone = gone; faults = left } } ∷ [] →
+        RisesWithin (claimed_steps tally less + steps_of_faults tally before joined) (claimed_steps tally fewer + steps_of_faults tally through new) one other →
+        RisesWithin (claimed_steps tally old + steps_of_faults tally before faults) (claimed_steps tally came + steps_of_faults tally through (take first new)) one other
+    shards-rise {N} before number gone old less fewer came one other at gone_is old_is came_is rises =
+        let f = λ (claimed : ClaimedShard N). shard_steps tally claimed.shard in
+        let a : claimed_steps tally old ≡ claimed_steps tally less + shard_steps tally shard =
+        ap (claimed_steps tally) old_is ∙ sum_by_push f less (record { number = number; shard = shard }) in
+        let b : claimed_steps tally came ≡ claimed_steps tally fewer + sum_by (kept_steps tally through) left =
+        ap (claimed_steps tally) came_is ∙ sum_by_push f fewer (record { number = number; shard = record { gone = gone; faults = left } })
+        ∙ ap (λ n. claimed_steps tally fewer + sum_by (kept_steps tally n) left) gone_is in
+        let c = before-steps before at in
+        let d = behind-steps in
+        omega (arith, a, b, c, d, rises)

@@ -1,5 +1,5 @@
 -- What contracts see of a shard, and what stands of it behind so many slots of the good first run (slots by IEEE 1364-2001, clause 5).
-use Rattle.std.specs.Prelude.{◌≡◌, ℕ, true, List, map, Option, None, Some, is_some, option_map, slice_get, sum_by}
+use Rattle.std.specs.Prelude.{◌≡◌, ℕ, true, false, List, map, Option, None, Some, is_some, option_map, slice_get, sum_by}
 use Rattle.std.specs.List.{filter_map}
 use Rattle.vf_base.specs.Lists.{AllHold}
 use Rattle.vf_base.specs.declared.finding.End.{End}
@@ -9,8 +9,7 @@ use Rattle.v_design.specs.Plain.{grade_of}
 use Rattle.copy_laws.specs.Windows.{IsBesideAt}
 use Rattle.copy_state.specs.Kept.{CopyKept, nothing_kept}
 use Rattle.shard_windows.specs.copy_window.Copies.{differences_in}
-use Rattle.shard_windows.specs.graded_steps.Behind.{fault_steps}
-use Rattle.shard_windows.specs.copy_window.ShardFaults.{steps_taken}
+use Rattle.own_gradings.specs.Numbers.{OwnStepsOf}
 
 -- a fault of a shard: what is kept of its faulty machine's state, and how its grading ended, if it did
 pub record FaultKept : Type 0 where
@@ -22,17 +21,24 @@ pub record ShardKept : Type 0 where
   pub gone : ℕ
   pub faults : List FaultKept
 
--- the process steps that the grading of a fault of a plan takes behind so many slots of the good first run: up to there, or in all, where it ended
-abbrev pub kept_steps : FlatDesign → TestPlan → ℕ → FaultKept → ℕ
-kept_steps design plan gone kept = elim (slice_get plan.faults kept.copy.fault) [ None ↦ 0 | Some fault ↦ steps_taken design plan gone fault kept.end ]
+-- the own steps that a fault takes up to behind so many slots of the good first run
+abbrev pub kept_steps : {design : FlatDesign} {plan : TestPlan} → OwnStepsOf design plan → ℕ → FaultKept → ℕ
+kept_steps tally gone kept = tally.steps kept.copy.fault false gone
 
 -- those of all faults of a shard
-abbrev pub shard_steps : FlatDesign → TestPlan → ShardKept → ℕ
-shard_steps design plan kept = sum_by (kept_steps design plan kept.gone) kept.faults
+abbrev pub shard_steps : {design : FlatDesign} {plan : TestPlan} → OwnStepsOf design plan → ShardKept → ℕ
+shard_steps tally kept = sum_by (kept_steps tally kept.gone) kept.faults
 
--- all that the grading of the fault of a number in a plan takes
-abbrev pub fault_steps_at : FlatDesign → TestPlan → ℕ → ℕ
-fault_steps_at design plan number = elim (slice_get plan.faults number) [ None ↦ 0 | Some fault ↦ fault_steps design plan fault ]
+-- all that the fault of a number in a plan takes
+abbrev pub fault_steps_at : {design : FlatDesign} {plan : TestPlan} → OwnStepsOf design plan → ℕ → ℕ
+fault_steps_at tally number = tally.all number false
+
+-- the listed faults whose gradings go on
+abbrev pub open_fault : TestPlan → FaultKept → Option StuckAt
+open_fault plan kept = elim kept.end [ None ↦ slice_get plan.faults kept.copy.fault | Some end ↦ None ]
+
+abbrev pub open_in : TestPlan → List FaultKept → List StuckAt
+open_in plan faults = filter_map (open_fault plan) faults
 
 -- the places of some faults in the plan
 abbrev pub places_of : List FaultKept → List ℕ

@@ -4,6 +4,7 @@ use Rattle.std.specs.List.{AllZip}
 use Rattle.vf_base.specs.Base.{fault_number}
 use Rattle.vf_base.specs.Lists.{AllHold}
 use Rattle.v_design.specs.Designs.{FlatDesign, TestPlan}
+use Rattle.own_gradings.specs.Numbers.{OwnStepsOf}
 use Rattle.shard_windows.specs.copy_window.ShardFaults.{IsShardFault, kept_by}
 use Rattle.shard_windows.specs.copy_window.declared.fault.ShardFault.{ShardFault}
 use Rattle.shard_windows.specs.Reached.{HasReachedIfOpen}
@@ -35,6 +36,6 @@ module _ {N : Type 0} where
     pub ended : AllZip StaysEnded old.shard.faults new.shard.faults
     pub stands : StandsBeside design plan new.shard
 
-  -- the process steps that the gradings of the faults of claimed shards take
-  abbrev pub claimed_steps : FlatDesign → TestPlan → List (ClaimedShard N) → ℕ
-  claimed_steps design plan shards = sum_by (λ (claimed : ClaimedShard N). shard_steps design plan claimed.shard) shards
+  -- the own steps that the faults of claimed shards take
+  abbrev pub claimed_steps : {design : FlatDesign} {plan : TestPlan} → OwnStepsOf design plan → List (ClaimedShard N) → ℕ
+  claimed_steps tally shards = sum_by (λ (claimed : ClaimedShard N). shard_steps tally claimed.shard) shards

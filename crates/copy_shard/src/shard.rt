@@ -4,12 +4,12 @@ ghost use Rattle.std.specs.Prelude.{◌≡◌, ◌≢◌, ◌<◌, ◌≤◌, �
 ghost use Rattle.std.specs.List.{AllZip};
 ghost use Rattle.std.specs.Option.{option_to_list};
 ghost use Rattle.vf_base.specs.Base.{fault_number};
-ghost use Rattle.v_design.specs.WellFormed.{KeepsRules};
 ghost use Rattle.copy_laws.specs.Windows.{good_slots};
 ghost use Rattle.fault_shards.specs.Found.{IsFinding, found_faults};
-ghost use Rattle.shard_windows.specs.graded_steps.Behind.{RisesTwice};
+ghost use Rattle.copy_laws.specs.Windows.{RiseAtMostOwn};
+ghost use Rattle.own_gradings.specs.Numbers.{OwnStepsOf, RisesOwn};
 ghost use Rattle.copy_shard.specs.Kept.{IsShard, fault_kept};
-ghost use Rattle.copy_shard.specs.Shards.{FaultKept, StandsBeside, StaysEnded, finding_of, fault_steps_at, findings_of, fresh_shard, places_of, shard_steps};
+ghost use Rattle.copy_shard.specs.Shards.{FaultKept, StandsBeside, StaysEnded, finding_of, fault_steps_at, findings_of, fresh_shard, open_in, places_of, shard_steps};
 
 use copy_state::FaultCopy;
 use good_trace::Setup;
@@ -181,13 +181,18 @@ impl<N: World> Shard<N> {
         ensures places { OnOk result (places_of self.new.faults ≡ places_of self.old.faults) }
         ensures ended { OnOk result (AllZip StaysEnded self.old.faults self.new.faults) }
         ensures stands { OnOk result (StandsBeside N.design N.plan self.new) }
-        ensures ticks { OnOk result (RisesTwice (shard_steps N.design N.plan self.old) (shard_steps N.design N.plan self.new) steps.old steps.new) }
+        // Of each fault whose grading hasn't ended, the own steps in the slots of the window, through the end of its grading.
+        ensures own { OnOk result (RiseAtMostOwn N.design N.plan self.old.gone self.new.gone (open_in N.plan self.old.faults) steps.old steps.new) }
+        ensures ticks { OnOk result (RisesOwn N.design N.plan (λ tally. shard_steps tally self.old) (λ tally. shard_steps tally self.new) steps.old steps.new) }
         ensures err { OnErr result (self.new ≡ record self.old { faults = [] }) }
     {
+        own_gradings::own_steps_rise();
+        let design = setup.design();
         let numbers = mem::replace(&mut self.numbers, Vec::new(alloc));
         let mut faults = mem::replace(&mut self.faults, Vec::new(alloc));
         let reached = advance_all(alloc, setup, window, self.reached, room, &mut faults, steps)?;
         let trace = window.window();
+        let _first = trace.begins();
         self.gone = trace.ends();
         self.reached = reached;
         self.numbers = numbers;
@@ -245,14 +250,14 @@ impl<N: World> Shard<N> {
     }
 
     /// Each fault of a shard stands as a fault does behind so many slots of the good first run, so what was found is its grade; once that run is through, something was
-    /// found of each; and so far its faults have taken no more process steps than they take in all. The function does nothing when it runs; its contract is the law.
+    /// found of each; and so far its faults have taken no more own steps than they take in all. The function does nothing when it runs; its contract is the law.
     pub fn stands(&self)
         ensures stands { StandsBeside N.design N.plan self.now }
         ensures graded { All (IsFinding N.design N.plan) (findings_of self.now.faults) }
         ensures complete { length (good_slots N.design N.plan) ≡ self.now.gone → found_faults (findings_of self.now.faults) ≡ places_of self.now.faults }
-        ensures steps { KeepsRules N.design → shard_steps N.design N.plan self.now ≤ sum_by (fault_steps_at N.design N.plan) (places_of self.now.faults) }
+        ensures steps { (tally : OwnStepsOf N.design N.plan) → shard_steps tally self.now ≤ sum_by (fault_steps_at tally) (places_of self.now.faults) }
     {
-        shard_windows::gradings_take_steps();
+        own_gradings::own_steps_rise();
         let _count = self.faults.len();
     }
 }

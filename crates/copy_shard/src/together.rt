@@ -3,7 +3,7 @@
 ghost use Rattle.std.specs.Prelude.{◌≡◌, ◌+◌, ◌≤◌, true, false, All, drop, length, map, take, IfOk, OnOk};
 ghost use Rattle.std.specs.List.{AllZip, list_any};
 ghost use Rattle.vf_base.specs.Lists.{AllHold};
-ghost use Rattle.shard_windows.specs.graded_steps.Behind.{RisesTwice};
+ghost use Rattle.own_gradings.specs.Numbers.{RisesOwn};
 ghost use Rattle.shard_windows.specs.copy_window.ShardFaults.{IsShardFault};
 ghost use Rattle.shard_windows.specs.window_faults.Steps.{steps_of_faults};
 ghost use Rattle.shard_windows.specs.window_faults.Within.{ComesThrough};
@@ -104,8 +104,8 @@ fn advance_rest<'d, N: World, L: Ledger>(
     ensures through { OnOk result (AllZip (GoesThrough N.design N.plan window.now.through) shards.old.items shards.new.items) }
     ensures reached { IfOk result (λ behind. HasReachedIfOpen N.design N.plan window.now.through behind faults.new.items) }
     ensures faults { IfOk result (λ behind. AllZip (ComesThrough N.design N.plan window.now.through behind.passed) faults.old.items faults.new.items) }
-    ensures ticks { OnOk result (RisesTwice (claimed_steps N.design N.plan shards.old.items + steps_of_faults N.design N.plan window.now.before faults.old.items)
-        (claimed_steps N.design N.plan shards.new.items + steps_of_faults N.design N.plan window.now.through faults.new.items) steps.old steps.new) }
+    ensures ticks { OnOk result (RisesOwn N.design N.plan (λ tally. claimed_steps tally shards.old.items + steps_of_faults tally window.now.before faults.old.items)
+        (λ tally. claimed_steps tally shards.new.items + steps_of_faults tally window.now.through faults.new.items) steps.old steps.new) }
 {
     let Some(claimed) = shards.pop() else {
         let behind = advance_all(alloc, setup, window, reached, room, faults, steps)?;
@@ -147,7 +147,7 @@ pub fn advance_together<'d, N: World, L: Ledger>(
 ) -> Result<(), NoMemory>
     requires { All (HasGone window.now.before) shards.old.items }
     ensures through { OnOk result (AllZip (GoesThrough N.design N.plan window.now.through) shards.old.items shards.new.items) }
-    ensures ticks { OnOk result (RisesTwice (claimed_steps N.design N.plan shards.old.items) (claimed_steps N.design N.plan shards.new.items) steps.old steps.new) }
+    ensures ticks { OnOk result (RisesOwn N.design N.plan (λ tally. claimed_steps tally shards.old.items) (λ tally. claimed_steps tally shards.new.items) steps.old steps.new) }
 {
     let mut none = Vec::new(alloc);
     let reached = Reached { passed: 0, time: 0 };

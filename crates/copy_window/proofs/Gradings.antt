@@ -29,6 +29,7 @@ use Rattle.window_grade.specs.Running.{StaysOn}
 use Rattle.window_strobes.specs.Leading.{EndsSo, last_before}
 use Rattle.window_strobes.specs.Seen.{AreSeenIf}
 use Rattle.window_strobes.specs.Strobes.{strobes_left}
+use Rattle.window_grade.specs.declared.beside.RunBeside.{RunBeside}
 use Rattle.window_strobes.specs.declared.strobes.WindowStrobes.{WindowStrobes}
 use Rattle.copy_window.specs.Passing.{CanGradeWindow, ComesToTime, EndsBehind, PassesWindow}
 use Rattle.copy_window.proofs.Windows.{can-grade, left-after}
@@ -62,8 +63,8 @@ not-before-zero : (stop : Option Stop) → NotBefore 0 stop
 not-before-zero None = tt
 not-before-zero (Some stop) = omega arith
 
-module _ (stand : RunsStand) (ends : StrobedGradingsEnd) (faults : StrobedFaultsGoOn) (watched : List WatchedBit) (strobes : WindowStrobes) (old : Simulated) (start : Said)
-    (of : CanGradeWindow watched strobes old start) where
+module _ (stand : RunsStand) (ends : StrobedGradingsEnd) (faults : StrobedFaultsGoOn) (watched : List WatchedBit) (strobes : WindowStrobes) (beside : RunBeside) (old : Simulated) (start : Said)
+    (of : CanGradeWindow watched strobes beside old start) where
   rules : KeepsRules of.design
   rules = of.at.design_rules
 
@@ -173,7 +174,7 @@ module _ (stand : RunsStand) (ends : StrobedGradingsEnd) (faults : StrobedFaults
 
 -- To the time to which a window leads
 
-module _ (watched : List WatchedBit) (strobes : WindowStrobes) (m : Simulated) (said : Said) (of : CanGradeWindow watched strobes m said) where
+module _ (watched : List WatchedBit) (strobes : WindowStrobes) (beside : RunBeside) (m : Simulated) (said : Said) (of : CanGradeWindow watched strobes beside m said) where
   -- there is no such time, and no sample is next
   pub comes-none : strobes.until ≡ None → ComesToTime of.design of.plan of.fault of.before (strobes_left of.plan strobes) strobes.until None m said
   comes-none e =
@@ -193,15 +194,15 @@ module _ (watched : List WatchedBit) (strobes : WindowStrobes) (m : Simulated) (
 
   -- it was run to that time
   pub comes-some : (until : ℕ) → (e : strobes.until ≡ Some until) → (samples : List Kept) → samples ≡ strobes.samples.items → (end : Option End) (new : Simulated) (after : Said) →
-      ((own : CanGrade watched samples until m said) → GradesThrough own.design own.plan own.fault own.later until end new after) →
+      ((own : CanGrade watched samples until beside m said) → GradesThrough own.design own.plan own.fault own.later until end new after) →
       ComesToTime of.design of.plan of.fault of.before (strobes_left of.plan strobes) strobes.until end new after
   comes-some until e samples same end new after grades =
       subst (λ (o : Option ℕ). ComesToTime of.design of.plan of.fault of.before (strobes_left of.plan strobes) o end new after) (sym e)
       (read samples same grades)
     where
-      read : (samples : List Kept) → samples ≡ strobes.samples.items → ((own : CanGrade watched samples until m said) → GradesThrough own.design own.plan own.fault own.later until end new after) →
+      read : (samples : List Kept) → samples ≡ strobes.samples.items → ((own : CanGrade watched samples until beside m said) → GradesThrough own.design own.plan own.fault own.later until end new after) →
           GradesThrough of.design of.plan of.fault (strobes_left of.plan strobes) until end new after
       read samples same grades =
-          (subst (λ (l : List Kept). ((own : CanGrade watched l until m said) → GradesThrough own.design own.plan own.fault own.later until end new after) →
+          (subst (λ (l : List Kept). ((own : CanGrade watched l until beside m said) → GradesThrough own.design own.plan own.fault own.later until end new after) →
           GradesThrough of.design of.plan of.fault (strobes_left of.plan strobes) until end new after) (sym same)
-          (λ given. given (can-grade watched strobes m said until of e))) grades
+          (λ given. given (can-grade watched strobes beside m said until of e))) grades

@@ -10,6 +10,7 @@ use Rattle.fault_strobes.specs.Shown.{said_of}
 use Rattle.fault_strobes.specs.declared.strobed.Strobed.{Strobed}
 use Rattle.copy_room.specs.machine.declared.parts.Machine.{Machine as Simulated}
 use Rattle.window_strobes.specs.Strobes.{passed_behind, strobes_left}
+use Rattle.window_grade.specs.declared.beside.RunBeside.{RunBeside}
 use Rattle.window_strobes.specs.declared.strobes.WindowStrobes.{WindowStrobes}
 use Rattle.copy_window.specs.Copies.{differences_in}
 use Rattle.copy_window.specs.Passing.{CanGradeWindow, CanSettle, PassesWindow, StaysOpen}
@@ -19,11 +20,21 @@ use Rattle.copy_window.specs.declared.fault.ShardFault.{ShardFault}
 some-end : (one other : End) → Some one ≡ Some other → one ≡ other
 some-end one other e = cc
 
-module _ (design : FlatDesign) (plan : TestPlan) (before through : ℕ) (strobes : WindowStrobes) (m : Simulated) (own : ShardFault)
-    (of : CanSettle design plan before through strobes m own) where
-  abbrev pub can-grade-window : (watched : List WatchedBit) → plan.watched ≡ watched → CanGradeWindow watched strobes m (said_by own)
-  can-grade-window watched watched_are =
-      record { design = design; plan = plan; fault = of.fault; before = before; through = through; watched_are = watched_are; are = of.are; at = of.at }
+module _ (design : FlatDesign) (plan : TestPlan) (before through : ℕ) (strobes : WindowStrobes) (beside : RunBeside) (m : Simulated) (own : ShardFault)
+    (of : CanSettle design plan before through strobes beside m own) where
+  abbrev pub can-grade-window : (watched : List WatchedBit) → plan.watched ≡ watched → CanGradeWindow watched strobes beside m (said_by own)
+  can-grade-window watched watched_are = record {
+    design = design;
+    plan = plan;
+    fault = of.fault;
+    before = before;
+    through = through;
+    watched_are = watched_are;
+    are = of.are;
+    at = of.at;
+    known = of.known;
+    taken = of.taken;
+  }
 
   -- its grading ended, with this end
   pub settles-found : (end : Option End) (new : Simulated) (strobed : Strobed) → is_some end ≡ true →

@@ -1,127 +1,64 @@
 -- A counter behind a window through which a fault was graded (steps by IEEE 1364-2001, clause 9; slots by clause 5).
-use Rattle.std.proofs.Common.{◌≡◌, ℕ, zero, suc, ◌<◌, ◌≤◌, List, [], true, false, refl, sym, ap, subst, ◌∙◌, arith}
-use Rattle.std.specs.Prelude.{Option, Some, None, is_some}
-use Rattle.vf_base.specs.Base.{ReportedPair, WatchedBit}
-use Rattle.vf_base.specs.declared.finding.End.{End}
-use Rattle.vf_base.specs.declared.finding.Side.TheVariants.{Good}
-use Rattle.v_design.specs.Designs.{FlatDesign, StuckAt, TestPlan, faulty_machine}
-use Rattle.v_design.specs.Grades.{Judged, Raced, Stop, SlotOutcome}
-use Rattle.v_design.specs.Plain.{grade_of}
+use Rattle.std.proofs.Common.{◌≡◌, ℕ, ◌+◌, ◌≤◌, Bool, List, [], ◌∷◌, ◌++◌, append-nil, length, sym, subst, ◌∙◌, arith}
+use Rattle.std.specs.Prelude.{Option, Some, None, sum}
+use Rattle.std.specs.List.{AllZip}
+use Rattle.vf_base.specs.Base.{WatchedBit}
+use Rattle.v_design.specs.Designs.{FlatDesign, StuckAt, TestPlan}
+use Rattle.v_design.specs.OwnSteps.{CountsOwn, ProcessRun}
 use Rattle.kept_samples.specs.declared.kept.Sample.{Sample as Kept}
-use Rattle.copy_laws.specs.Windows.{WindowEnd, IsOpen, IsThrough, IsRaced, time_at}
+use Rattle.copy_laws.specs.Windows.{RiseAtMostOwn, runs_between, time_at}
 use Rattle.copy_room.specs.machine.declared.parts.Machine.{Machine as Simulated}
 use Rattle.good_trace.specs.Slots.{end_of}
-use Rattle.beside_laws.specs.Gradings.{GoesPast}
-use Rattle.fault_grade.specs.Ticks.{steps_by, steps_before, grading_steps}
-use Rattle.graded_steps.specs.Behind.{RisesWithin, steps_up_to}
-use Rattle.fault_strobes.specs.Said.{Said, Judging, Keeping, verdict_said}
-use Rattle.window_grade.specs.Grading.{CanGrade, IsGradingAt}
-use Rattle.window_grade.specs.Running.{TicksTo}
-use Rattle.window_strobes.specs.Leading.{EndsSo, last_before}
-use Rattle.window_strobes.specs.Strobes.{strobes_left}
+use Rattle.fault_strobes.specs.Said.{Said, keeps, plan_by}
+use Rattle.fault_strobes.proofs.Faults.{time-same}
+use Rattle.window_grade.specs.Beside.{TicksTo, tried_in}
+use Rattle.window_grade.specs.Grading.{CanGrade}
+use Rattle.window_grade.specs.Rises.{OwnStepsRise}
+use Rattle.window_grade.specs.declared.beside.RunBeside.{RunBeside}
+use Rattle.window_beside.specs.Known.{SlotsAreKnown, led_to}
 use Rattle.window_strobes.specs.declared.strobes.WindowStrobes.{WindowStrobes}
-use Rattle.copy_window.specs.Passing.{CanGradeWindow, ComesToTime, TicksIf, EndsBehind}
-use Rattle.copy_window.specs.ShardFaults.{steps_taken}
+use Rattle.copy_window.specs.Passing.{CanGradeWindow}
 use Rattle.copy_window.proofs.Windows.{can-grade}
 
--- the verdict of strobes that found nothing hard comes with the steps through the plan's end
-verdict-steps : (design : FlatDesign) (plan : TestPlan) (fault : StuckAt) (said : Said) →
-    grading_steps design plan fault (Judged (verdict_said said)) ≡ steps_by (faulty_machine design fault) plan.end
-verdict-steps design plan fault (Judging None) = refl
-verdict-steps design plan fault (Judging (Some time)) = refl
-verdict-steps design plan fault (Keeping differs) = refl
-
--- nothing was run before the good machine's race at time 0
-none-before : (design : FlatDesign) (fault : StuckAt) (now : Option ℕ) (stop : Option Stop) (time : ℕ) (outcome : SlotOutcome) → GoesPast now stop →
-    stop ≡ Some (record { time = time; outcome = outcome }) → time ≡ 0 → steps_up_to (faulty_machine design fault) now ≡ 0
-none-before design fault None stop time outcome past is e = refl
-none-before design fault (Some now) None time outcome past is e = cc
-none-before design fault (Some now) (Some stop) time outcome past is e =
-    let same : stop ≡ record { time = time; outcome = outcome } = cc in
-    let at : stop.time ≡ time = ap (λ (s : Stop). s.time) same in
-    absurd (omega (arith, past, at, e))
-
-module _ (watched : List WatchedBit) (strobes : WindowStrobes) (old : Simulated) (start : Said) (of : CanGradeWindow watched strobes old start) (before after : ℕ) where
+module _ (rises : OwnStepsRise) (watched : List WatchedBit) (strobes : WindowStrobes) (beside : RunBeside) (old : Simulated) (start : Said) (of : CanGradeWindow watched strobes beside old start) where
   abbrev now : Option ℕ
   now = time_at of.design of.plan of.before
 
-  abbrev later : List ℕ
-  later = strobes_left of.plan strobes
+  abbrev P : TestPlan
+  P = plan_by (keeps start) of.plan
 
-  abbrev Ticked : Option End → Type 0
-  Ticked end = RisesWithin (steps_taken of.design of.plan of.before of.fault None) (steps_taken of.design of.plan of.through of.fault end) before after
-
-  -- it ended by the time to which the window leads
-  pub ticks-found : (end : Option End) (m : Simulated) (said : Said) → is_some end ≡ true → ComesToTime of.design of.plan of.fault of.before later strobes.until end m said →
-      TicksIf of.design of.plan of.fault now strobes.until end before after → Ticked end
-  ticks-found end m said some comes ticks = go strobes.until end some comes ticks
-    where
-      go : (until : Option ℕ) (end : Option End) → is_some end ≡ true → ComesToTime of.design of.plan of.fault of.before later until end m said →
-          TicksIf of.design of.plan of.fault now until end before after → Ticked end
-      go until None some comes ticks = cc
-      go None (Some end) some comes ticks = (let none : Some end ≡ None = comes.0 in cc)
-      go (Some until) (Some end) some comes ticks = ticks
-
-  -- slots come after the window
-  ticks-open : (until : Option ℕ) (end : Option End) (said : Said) → EndsSo of.design of.plan of.through IsOpen until → TicksIf of.design of.plan of.fault now until None before after →
-      EndsBehind IsOpen said end → Ticked end
-  ticks-open until end said so ticks behind =
-      subst Ticked (sym behind)
-      (subst (λ (t : Option ℕ). RisesWithin (steps_up_to (faulty_machine of.design of.fault) now) (steps_up_to (faulty_machine of.design of.fault) t) before after) (sym so.2.time_is)
-      (subst (λ (o : Option ℕ). TicksIf of.design of.plan of.fault now o None before after) so.1 ticks))
-
-  -- the good first run is through
-  ticks-through : (until : Option ℕ) (end : Option End) (m : Simulated) (said : Said) → EndsSo of.design of.plan of.through IsThrough until →
-      ComesToTime of.design of.plan of.fault of.before later until None m said → TicksIf of.design of.plan of.fault now until None before after → EndsBehind IsThrough said end → Ticked end
-  ticks-through until end m said so comes ticks behind =
-      let at : IsGradingAt of.design of.plan of.fault (Some of.plan.end) m [] later said =
-      subst (λ (o : Option ℕ). ComesToTime of.design of.plan of.fault of.before later o None m said) so.2 comes in
-      let run : RisesWithin (steps_up_to (faulty_machine of.design of.fault) now) (steps_by (faulty_machine of.design of.fault) of.plan.end) before after =
-      subst (λ (o : Option ℕ). TicksIf of.design of.plan of.fault now o None before after) so.2 ticks in
-      subst Ticked (sym behind.1)
-      (subst (λ n. RisesWithin (steps_up_to (faulty_machine of.design of.fault) now) n before after)
-      (sym (ap (grading_steps of.design of.plan of.fault) behind.2 ∙ verdict-steps of.design of.plan of.fault said)) run)
-
-  -- the good machine has a race behind the time, or at time 0
-  ticks-raced : (pair : ReportedPair) (until : Option ℕ) (end : Option End) (m : Simulated) (said : Said) → EndsSo of.design of.plan of.through (IsRaced pair) until →
-      ComesToTime of.design of.plan of.fault of.before later until None m said → TicksIf of.design of.plan of.fault now until None before after → EndsBehind (IsRaced pair) said end →
-      Ticked end
-  ticks-raced pair until end m said so comes ticks behind =
-      subst Ticked (sym behind.1)
-      (subst (λ n. RisesWithin (steps_up_to (faulty_machine of.design of.fault) now) n before after) (sym (ap (grading_steps of.design of.plan of.fault) behind.2)) (go pair.time refl))
-    where
-      go : (time : ℕ) → pair.time ≡ time → RisesWithin (steps_up_to (faulty_machine of.design of.fault) now) (steps_before (faulty_machine of.design of.fault) time) before after
-      go zero e =
-          let none : until ≡ None = so.2 ∙ ap last_before e in
-          let at = subst (λ (o : Option ℕ). ComesToTime of.design of.plan of.fault of.before later o None m said) none comes in
-          let same : after ≡ before = subst (λ (o : Option ℕ). TicksIf of.design of.plan of.fault now o None before after) none ticks in
-          let nothing : steps_up_to (faulty_machine of.design of.fault) now ≡ 0 = none-before of.design of.fault now _ pair.time _ at.1.grading.good so.1 e in
-          omega (arith, same, nothing)
-      go (suc time) e =
-          let some : until ≡ Some time = so.2 ∙ ap last_before e in subst (λ (o : Option ℕ). TicksIf of.design of.plan of.fault now o None before after) some ticks
-
-  behind : (ending : WindowEnd) (end : Option End) (m : Simulated) (said : Said) → EndsSo of.design of.plan of.through ending strobes.until →
-      ComesToTime of.design of.plan of.fault of.before later strobes.until None m said → TicksIf of.design of.plan of.fault now strobes.until None before after →
-      EndsBehind ending said end → Ticked end
-  behind IsOpen end m said so comes ticks ended = ticks-open strobes.until end said so ticks ended
-  behind IsThrough end m said so comes ticks ended = ticks-through strobes.until end m said so comes ticks ended
-  behind (IsRaced pair) end m said so comes ticks ended = ticks-raced pair strobes.until end m said so comes ticks ended
-
-  -- it came to that time: how the window ends tells
-  pub ticks-on : (early end : Option End) (m : Simulated) (said : Said) → is_some early ≡ false → ComesToTime of.design of.plan of.fault of.before later strobes.until early m said →
-      TicksIf of.design of.plan of.fault now strobes.until early before after → EndsBehind (end_of strobes.ending) said end → Ticked end
-  ticks-on None end m said none comes ticks ended = behind (end_of strobes.ending) end m said of.are.leads.ends comes ticks ended
-  ticks-on (Some found) end m said none comes ticks ended = cc
+  -- there is no time to which the window leads
+  pub ticks-none : strobes.until ≡ None → (counter : ℕ) → TicksTo of.design P of.fault beside now (led_to now strobes.until) counter counter
+  ticks-none e counter =
+      subst (λ (o : Option ℕ). TicksTo of.design P of.fault beside now (led_to now o) counter counter) (sym e) (rises.stays of.design P of.fault beside now counter)
 
   -- it was run to that time
-  pub ticks-some : (until : ℕ) → (e : strobes.until ≡ Some until) → (samples : List Kept) → samples ≡ strobes.samples.items → (end : Option End) →
-      ((own : CanGrade watched samples until old start) → TicksTo own.design own.plan own.fault own.now until end before after) → TicksIf of.design of.plan of.fault now strobes.until end before after
-  ticks-some until e samples same end ticks =
-      subst (λ (o : Option ℕ). TicksIf of.design of.plan of.fault now o end before after) (sym e)
-      (subst (λ (l : List Kept). ((own : CanGrade watched l until old start) → TicksTo own.design own.plan own.fault own.now until end before after) →
-      TicksTo of.design of.plan of.fault now until end before after) (sym same) (λ given. given (can-grade watched strobes old start until of e)) ticks)
+  pub ticks-some : (until : ℕ) → (e : strobes.until ≡ Some until) → (samples : List Kept) → samples ≡ strobes.samples.items → (before after : ℕ) →
+      ((own : CanGrade watched samples until beside old start) → TicksTo own.design (plan_by (keeps start) own.plan) own.fault beside own.now (Some until) before after) →
+      TicksTo of.design P of.fault beside now (led_to now strobes.until) before after
+  ticks-some until e samples same before after ticks =
+      subst (λ (o : Option ℕ). TicksTo of.design P of.fault beside now (led_to now o) before after) (sym e)
+      (subst (λ (l : List Kept). ((own : CanGrade watched l until beside old start) → TicksTo own.design (plan_by (keeps start) own.plan) own.fault beside own.now (Some until) before after) →
+      TicksTo of.design P of.fault beside now (Some until) before after) (sym same) (λ given. given (can-grade watched strobes beside old start until of e)) ticks)
 
--- what wasn't found isn't there
-pub none-is : (end : Option End) → is_some end ≡ false → end ≡ None
-none-is None e = refl
-none-is (Some end) e = cc
+  -- behind it no slot of the window is run
+  pub ticks-behind : SlotsAreKnown → (before after : ℕ) → TicksTo of.design P of.fault beside now (led_to now strobes.until) before after →
+      TicksTo of.design P of.fault beside now (time_at of.design of.plan of.through) before after
+  ticks-behind law before after ticks =
+      let by = law.behind of.design of.plan of.before of.through (end_of strobes.ending) strobes.until of.at.design_rules of.are.leads in
+      rises.joins of.design P of.fault beside now (led_to now strobes.until) (time_at of.design of.plan of.through) before after after by.0 by.1 ticks
+      (rises.taken of.design P of.fault beside (led_to now strobes.until) (time_at of.design of.plan of.through) after of.taken)
+
+-- with all that was taken before, a counter rose by at most the own steps
+pub rises-most : (design : FlatDesign) (plan : TestPlan) (fault : StuckAt) (kept : Bool) (beside : RunBeside) (before through old new : ℕ) →
+    TicksTo design (plan_by kept plan) fault beside (time_at design plan before) (time_at design plan through) old new →
+    tried_in beside (time_at design plan before) (time_at design plan through) ≡ length beside.tried.now →
+    RiseAtMostOwn design (plan_by kept plan) before through (fault ∷ []) old (new + length beside.tried.now)
+rises-most design plan fault kept beside before through old new ticks all = λ counts zip.
+    let P : TestPlan = plan_by kept plan in
+    let runs : List (Option ProcessRun × ProcessRun) = runs_between design P (time_at design P before) (time_at design P through) fault in
+    let same : runs ++ [] ≡ runs_between design P (time_at design plan before) (time_at design plan through) fault =
+    append-nil runs ∙ (λ i. runs_between design P (time-same design plan kept before i) (time-same design plan kept through i) fault) in
+    let most : new + tried_in beside (time_at design plan before) (time_at design plan through) ≤ old + sum counts =
+    ticks counts (subst (λ (l : List (Option ProcessRun × ProcessRun)). AllZip CountsOwn l counts) same zip) in
+    omega (arith, most, all)

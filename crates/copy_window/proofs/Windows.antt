@@ -15,6 +15,7 @@ use Rattle.grade_laws.specs.Ahead.{StopsAfter}
 use Rattle.grade_laws.specs.Grading.{good_seen, good_stop, times}
 use Rattle.fault_strobes.specs.Said.{Said}
 use Rattle.window_grade.specs.Grading.{CanGrade}
+use Rattle.window_grade.specs.declared.beside.RunBeside.{RunBeside}
 use Rattle.window_strobes.specs.Leading.{IsLed}
 use Rattle.window_strobes.specs.Seen.{AreSeen, AreSeenIf}
 use Rattle.window_strobes.specs.Strobes.{AreStrobesOf, strobes_left}
@@ -88,9 +89,9 @@ module _ (design : FlatDesign) (plan : TestPlan) (before through : ℕ) (strobes
   left-after until e = subst (λ l. AllHold (λ strobe. until < strobe) l) (drop-drop (length strobes.samples.items) strobes.passed plan.strobes) (seen-at until e).after
 
 -- a grading may go to the time to which the window leads
-abbrev pub can-grade : (watched : List WatchedBit) (strobes : WindowStrobes) (m : Simulated) (said : Said) (until : ℕ) (of : CanGradeWindow watched strobes m said) → strobes.until ≡ Some until →
-    CanGrade watched strobes.samples.items until m said
-can-grade watched strobes m said until of e = record {
+abbrev pub can-grade : (watched : List WatchedBit) (strobes : WindowStrobes) (beside : RunBeside) (m : Simulated) (said : Said) (until : ℕ) (of : CanGradeWindow watched strobes beside m said) →
+    strobes.until ≡ Some until → CanGrade watched strobes.samples.items until beside m said
+can-grade watched strobes beside m said until of e = record {
   design = of.design;
   plan = of.plan;
   fault = of.fault;
@@ -98,6 +99,7 @@ can-grade watched strobes m said until of e = record {
   later = strobes_left of.plan strobes;
   watched_are = of.watched_are;
   at = of.at;
+  known = of.known until e;
   since = (of.are.leads.led until e).since;
   by_then = (seen-at of.design of.plan of.before of.through strobes of.are until e).by_then;
   after = left-after of.design of.plan of.before of.through strobes of.are until e;

@@ -14,12 +14,13 @@ use Rattle.beside_laws.specs.GoodRuns.{IsOpenAt}
 use Rattle.beside_laws.specs.Shards.{found_fault}
 use Rattle.fault_strobes.specs.Full.{IsFull}
 use Rattle.fault_strobes.specs.Said.{Said, keeps, plan_by, verdict_said}
-use Rattle.window_grade.specs.Running.{TicksTo}
+use Rattle.window_grade.specs.Beside.{IsKnownBeside, WereTaken, tried_in}
+use Rattle.window_grade.specs.declared.beside.RunBeside.{RunBeside}
 use Rattle.window_grade.specs.Grading.{IsGradingAt, GradesThrough}
 use Rattle.window_strobes.specs.Strobes.{AreStrobesOf, strobes_left}
 use Rattle.window_strobes.specs.declared.strobes.WindowStrobes.{WindowStrobes}
 use Rattle.vf_base.specs.declared.finding.Side.TheVariants.{Good}
-use Rattle.copy_window.specs.ShardFaults.{IsShardFault, said_by}
+use Rattle.copy_window.specs.ShardFaults.{IsShardFault, kept_by, said_by}
 use Rattle.copy_window.specs.declared.fault.ShardFault.{ShardFault}
 
 -- the grading of a fault stands at a window's beginning
@@ -28,7 +29,7 @@ IsGradingFrom design plan fault before strobes m said =
     IsGradingAt design plan fault (time_at design plan before) m (map sample_of strobes.samples.items) (strobes_left plan strobes) said
 
 -- it may go through the window
-pub record CanGradeWindow (watched : List WatchedBit) (strobes : WindowStrobes) (m : Simulated) (said : Said) : Type 0 where
+pub record CanGradeWindow (watched : List WatchedBit) (strobes : WindowStrobes) (beside : RunBeside) (m : Simulated) (said : Said) : Type 0 where
   pub design : FlatDesign
   pub plan : TestPlan
   pub fault : StuckAt
@@ -37,16 +38,13 @@ pub record CanGradeWindow (watched : List WatchedBit) (strobes : WindowStrobes) 
   pub watched_are : plan.watched ≡ watched
   pub are : AreStrobesOf design plan before through strobes
   pub at : IsGradingFrom design plan fault before strobes m said
+  pub known : (until : ℕ) → strobes.until ≡ Some until → IsKnownBeside design (plan_by (keeps said) plan) fault (time_at design plan before) until beside
+  pub taken : WereTaken design (plan_by (keeps said) plan) fault beside
 
 -- it came to the time to which the window leads, if there is one, or ended by then
 abbrev pub ComesToTime : FlatDesign → TestPlan → StuckAt → ℕ → List ℕ → Option ℕ → Option End → Simulated → Said → Type 0
 ComesToTime design plan fault before later None end m said = (end ≡ None) × IsGradingAt design plan fault (time_at design plan before) m [] later said
 ComesToTime design plan fault before later (Some until) end m said = GradesThrough design plan fault later until end m said
-
--- a counter behind its run to that time, if there is one
-abbrev pub TicksIf : FlatDesign → TestPlan → StuckAt → Option ℕ → Option ℕ → Option End → ℕ → ℕ → Type 0
-TicksIf design plan fault now None end before after = after ≡ before
-TicksIf design plan fault now (Some until) end before after = TicksTo design plan fault now until end before after
 
 -- behind a window that ends so, the strobes' verdict or the good machine's race ends it; where slots come nothing does
 abbrev pub EndsBehind : WindowEnd → Said → Option End → Type 0
@@ -67,13 +65,17 @@ PassesWindow design plan fault through later (Some end) m said =
     ((d : Differences) → IsBesideAt design (plan_by (keeps said) plan) through (found_fault fault d (grade_of end))) × IsFull design plan fault (grade_of end) said
 
 -- a fault of which nothing was found may be graded through a window by its faulty machine
-pub record CanSettle (design : FlatDesign) (plan : TestPlan) (before through : ℕ) (strobes : WindowStrobes) (m : Simulated) (own : ShardFault) : Type 0 where
+pub record CanSettle (design : FlatDesign) (plan : TestPlan) (before through : ℕ) (strobes : WindowStrobes) (beside : RunBeside) (m : Simulated) (own : ShardFault) : Type 0 where
   pub fault : StuckAt
   pub listed : slice_get plan.faults own.copy.fault ≡ Some fault
   pub none : own.end ≡ None
   pub within : KeepsWithin (length design.objects) (length design.processes) own.copy
   pub are : AreStrobesOf design plan before through strobes
   pub at : IsGradingFrom design plan fault before strobes m (said_by own)
+  -- beside the good machine's slots; all steps that were taken before were taken between
+  pub known : (until : ℕ) → strobes.until ≡ Some until → IsKnownBeside design (plan_by (kept_by own) plan) fault (time_at design plan before) until beside
+  pub taken : WereTaken design (plan_by (kept_by own) plan) fault beside
+  pub all : tried_in beside (time_at design plan before) (time_at design plan through) ≡ length beside.tried.now
 
 -- a fault whose grading goes on behind a window, up to whose end so many strobes come, is kept by its copy
 pub record StaysOpen (design : FlatDesign) (plan : TestPlan) (through passed : ℕ) (m : Simulated) (own : ShardFault) : Type 0 where

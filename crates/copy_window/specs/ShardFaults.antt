@@ -13,14 +13,9 @@ use Rattle.beside_laws.specs.GoodRuns.{IsOpenAt}
 use Rattle.fault_strobes.specs.Full.{IsFull}
 use Rattle.fault_strobes.specs.Said.{IsSaid, Said, keeps, plan_by}
 use Rattle.fault_strobes.specs.Shown.{said_of}
-use Rattle.graded_steps.specs.Behind.{steps_graded}
 use Rattle.copy_room.specs.machine.Standing.{StandsBetween}
 use Rattle.copy_window.specs.Copies.{differences_in}
 use Rattle.copy_window.specs.declared.fault.ShardFault.{ShardFault}
-
--- the process steps that the grading of a fault takes behind so many slots of the good first run: up to there, or in all, where it ended
-abbrev pub steps_taken : FlatDesign → TestPlan → ℕ → StuckAt → Option End → ℕ
-steps_taken design plan gone fault end = steps_graded design plan fault (time_at design plan gone) (option_map grade_of end)
 
 -- the fault, its copy's differences, and its grade, if its grading ended
 abbrev pub beside_by : FlatDesign → StuckAt → ShardFault → FaultBeside

@@ -1,11 +1,12 @@
 // A fault from the start of its faulty machine.
 
-ghost use Rattle.std.specs.Prelude.{◌≡◌, ◌+◌, ◌≤◌, None, OnOk};
+ghost use Rattle.std.specs.Prelude.{◌+◌, ◌≤◌, ◌∷◌, [], OnOk};
+ghost use Rattle.copy_laws.specs.Windows.{RiseAtMostOwn};
+ghost use Rattle.fault_strobes.specs.Said.{plan_by};
 ghost use Rattle.v_design.specs.Plain.{fault_of};
 ghost use Rattle.window_strobes.specs.Strobes.{passed_behind};
 ghost use Rattle.copy_window.specs.Passing.{CanBegin};
-ghost use Rattle.graded_steps.specs.Behind.{RisesWithin};
-ghost use Rattle.copy_window.specs.ShardFaults.{IsShardFault, SameFault, steps_taken};
+ghost use Rattle.copy_window.specs.ShardFaults.{IsShardFault, SameFault, kept_by};
 
 use crate::fault::ShardFault;
 use crate::settle::settle;
@@ -17,11 +18,12 @@ use std::alloc::Global;
 use std::sync::ledger::Ledger;
 use v_design::{Fault, World};
 use vf_base::{NoMemory, Steps};
-use window_grade::machines_stand;
+use window_beside::slots_are_known;
+use window_grade::{RunBeside, machines_stand};
 use window_strobes::WindowStrobes;
 
 /// Grades a fault through the slots of the first window of the good first run before the one of a number. The strobes are those of these slots; `log` is room for the log of a
-/// slot; `steps` ticks once for each process step of the slots that its faulty machine runs.
+/// slot; `steps` ticks at most once for each own step of the slots that its faulty machine runs.
 ///
 /// # Errors
 ///
@@ -41,15 +43,20 @@ pub fn begin_fault<N: World, L: Ledger>(
     requires fault { CanBegin N.design N.plan window.now.before (window.now.before + end) strobes.now (fault_of fault) own.old }
     ensures fault { OnOk result (IsShardFault N.design N.plan (window.now.before + end) (passed_behind strobes.now) own.new) }
     ensures place { OnOk result (SameFault own.old own.new) }
-    ensures ticks { OnOk result (RisesWithin (steps_taken N.design N.plan window.now.before (fault_of fault) None)
-        (steps_taken N.design N.plan (window.now.before + end) (fault_of fault) own.new.end) steps.old steps.new) }
+    ensures ticks { OnOk result (RiseAtMostOwn N.design (plan_by (kept_by own.old) N.plan) window.now.before (window.now.before + end) (fault_of fault ∷ []) steps.old steps.new) }
 {
     strobed_gradings_go_on();
     machines_stand();
+    slots_are_known();
     let design = setup.design();
     let plan = setup.plan();
     let mut machine = Machine::new(alloc, design, setup.graph(), Some(fault))?;
     own.strobed.forget();
+    let beside = RunBeside {
+        slots: window.slots_told(),
+        time: 0,
+        tried: &[],
+    };
     settle(
         alloc,
         setup,
@@ -59,6 +66,7 @@ pub fn begin_fault<N: World, L: Ledger>(
         &mut machine,
         log,
         own,
+        &beside,
         steps,
     )?;
     Ok(())

@@ -1,19 +1,19 @@
 // The grading of a fault through a window.
 
-ghost use Rattle.std.specs.Prelude.{◌≡◌, IfOk, None, OnOk, map};
+ghost use Rattle.std.specs.Prelude.{◌≡◌, IfOk, OnOk, map};
 ghost use Rattle.vf_base.specs.Base.{watched_bit};
 ghost use Rattle.v_design.specs.Grades.{Judged};
 ghost use Rattle.v_design.specs.Plain.{grade_of};
 ghost use Rattle.strobe_detect.specs.Verdicts.{verdict_view};
 ghost use Rattle.good_trace.specs.Slots.{end_of};
-ghost use Rattle.fault_strobes.specs.Said.{keeps};
+ghost use Rattle.fault_strobes.specs.Said.{keeps, plan_by};
 ghost use Rattle.fault_strobes.specs.Shown.{said_of};
+ghost use Rattle.window_grade.specs.Beside.{TicksTo};
 ghost use Rattle.window_grade.specs.Running.{StaysOn};
+ghost use Rattle.window_beside.specs.Known.{led_to};
 ghost use Rattle.window_strobes.specs.Strobes.{strobes_left};
 ghost use Rattle.copy_laws.specs.Windows.{time_at};
-ghost use Rattle.graded_steps.specs.Behind.{RisesWithin};
-ghost use Rattle.copy_window.specs.Passing.{CanGradeWindow, ComesToTime, TicksIf, EndsBehind, PassesWindow};
-ghost use Rattle.copy_window.specs.ShardFaults.{steps_taken};
+ghost use Rattle.copy_window.specs.Passing.{CanGradeWindow, ComesToTime, EndsBehind, PassesWindow};
 
 use causal_monitor::SlotLog;
 use copy_room::Machine;
@@ -23,7 +23,8 @@ use std::alloc::Global;
 use std::sync::ledger::Ledger;
 use strobe_detect::Grade;
 use vf_base::{End, NoMemory, Side, Steps, WatchBit};
-use window_grade::grade_through;
+use window_beside::slots_are_known;
+use window_grade::{RunBeside, grade_through, own_steps_rise};
 use window_strobes::WindowStrobes;
 
 /// How the strobes' verdict ends a grading.
@@ -56,21 +57,26 @@ fn grade_to<L: Ledger>(
     watched: &[WatchBit],
     strobed: &mut Strobed,
     strobes: &WindowStrobes,
+    beside: &RunBeside<'_>,
     steps: &mut Steps<L>,
 ) -> Result<Option<End>, NoMemory>
-    requires { CanGradeWindow (map watched_bit watched.now) strobes.now machine.old (said_of strobed.old) }
-    ensures comes { IfOk result (λ end. (of : CanGradeWindow (map watched_bit watched.now) strobes.now machine.old (said_of strobed.old)) →
+    requires { CanGradeWindow (map watched_bit watched.now) strobes.now beside.now machine.old (said_of strobed.old) }
+    ensures comes { IfOk result (λ end. (of : CanGradeWindow (map watched_bit watched.now) strobes.now beside.now machine.old (said_of strobed.old)) →
         ComesToTime of.design of.plan of.fault of.before (strobes_left of.plan strobes.now) strobes.now.until end machine.new (said_of strobed.new)) }
     ensures stays { IfOk result (λ _. StaysOn machine.old machine.new) }
     ensures kind { OnOk result (keeps (said_of strobed.new) ≡ keeps (said_of strobed.old)) }
-    ensures ticks { IfOk result (λ end. (of : CanGradeWindow (map watched_bit watched.now) strobes.now machine.old (said_of strobed.old)) →
-        TicksIf of.design of.plan of.fault (time_at of.design of.plan of.before) strobes.now.until end steps.old steps.new) }
+    ensures ticks { OnOk result ((of : CanGradeWindow (map watched_bit watched.now) strobes.now beside.now machine.old (said_of strobed.old)) →
+        TicksTo of.design (plan_by (keeps (said_of strobed.old)) of.plan) of.fault beside.now (time_at of.design of.plan of.before)
+        (led_to (time_at of.design of.plan of.before) strobes.now.until) steps.old steps.new) }
 {
+    own_steps_rise();
     match strobes.until {
         None => Ok(None),
         Some(until) => {
             let samples = strobes.samples.as_slice();
-            let end = grade_through(alloc, log, machine, watched, strobed, samples, until, steps)?;
+            let end = grade_through(
+                alloc, log, machine, watched, strobed, samples, until, beside, steps,
+            )?;
             Ok(end)
         }
     }
@@ -84,20 +90,25 @@ pub(crate) fn grade_window<L: Ledger>(
     watched: &[WatchBit],
     strobed: &mut Strobed,
     strobes: &WindowStrobes,
+    beside: &RunBeside<'_>,
     steps: &mut Steps<L>,
 ) -> Result<Option<End>, NoMemory>
-    requires { CanGradeWindow (map watched_bit watched.now) strobes.now machine.old (said_of strobed.old) }
-    ensures passes { IfOk result (λ end. (of : CanGradeWindow (map watched_bit watched.now) strobes.now machine.old (said_of strobed.old)) →
+    requires { CanGradeWindow (map watched_bit watched.now) strobes.now beside.now machine.old (said_of strobed.old) }
+    ensures passes { IfOk result (λ end. (of : CanGradeWindow (map watched_bit watched.now) strobes.now beside.now machine.old (said_of strobed.old)) →
         PassesWindow of.design of.plan of.fault of.through (strobes_left of.plan strobes.now) end machine.new (said_of strobed.new)) }
     ensures stays { IfOk result (λ _. StaysOn machine.old machine.new) }
     ensures kind { OnOk result (keeps (said_of strobed.new) ≡ keeps (said_of strobed.old)) }
-    ensures ticks { IfOk result (λ end. (of : CanGradeWindow (map watched_bit watched.now) strobes.now machine.old (said_of strobed.old)) →
-        RisesWithin (steps_taken of.design of.plan of.before of.fault None) (steps_taken of.design of.plan of.through of.fault end) steps.old steps.new) }
+    ensures ticks { OnOk result ((of : CanGradeWindow (map watched_bit watched.now) strobes.now beside.now machine.old (said_of strobed.old)) →
+        TicksTo of.design (plan_by (keeps (said_of strobed.old)) of.plan) of.fault beside.now (time_at of.design of.plan of.before) (time_at of.design of.plan of.through) steps.old steps.new) }
 {
     beside_laws::runs_stand();
+    own_steps_rise();
+    slots_are_known();
     strobed_gradings_end();
     strobed_faults_go_on();
-    let end = grade_to(alloc, log, machine, watched, strobed, strobes, steps)?;
+    let end = grade_to(
+        alloc, log, machine, watched, strobed, strobes, beside, steps,
+    )?;
     if end.is_some() {
         return Ok(end);
     }

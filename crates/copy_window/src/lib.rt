@@ -4,7 +4,7 @@
 //! that the machine ran, and by what the strobes said so far. `begin_fault` starts its faulty machine before the first slot; `resume_fault` puts the faulty machine's
 //! state into a machine again. Both run it through the window's slots, up to a given one. The main contract: the fault stands as a fault of a shard does behind these
 //! slots: either its grading ended, with its grade, or the copy that is kept is the faulty machine's state there, and keeps nothing that is the good machine's; and the
-//! counter rose by no more than the process steps of the faulty machine's slots between. `end_behind` is how a window's end ends a grading that goes on.
+//! counter rose by at most the own steps of the faulty machine's slots between. `end_behind` is how a window's end ends a grading that goes on.
 #![tactic(auto)]
 
 mod begin;

@@ -1,11 +1,12 @@
 // A fault behind slots of a window.
 
-ghost use Rattle.std.specs.Prelude.{◌≡◌, ℕ, ◌+◌, ◌≤◌, None, OnOk};
+ghost use Rattle.std.specs.Prelude.{◌≡◌, ℕ, ◌+◌, ◌≤◌, ◌∷◌, [], length, OnOk};
+ghost use Rattle.copy_laws.specs.Windows.{RiseAtMostOwn};
+ghost use Rattle.fault_strobes.specs.Said.{plan_by};
 ghost use Rattle.window_grade.specs.Running.{StaysOn};
 ghost use Rattle.window_strobes.specs.Strobes.{passed_behind};
 ghost use Rattle.copy_window.specs.Passing.{CanSettle, StaysOpen};
-ghost use Rattle.graded_steps.specs.Behind.{RisesWithin};
-ghost use Rattle.copy_window.specs.ShardFaults.{IsShardFault, SameFault, steps_taken};
+ghost use Rattle.copy_window.specs.ShardFaults.{IsShardFault, SameFault, kept_by};
 
 use crate::fault::ShardFault;
 use crate::grade::grade_window;
@@ -18,6 +19,7 @@ use std::alloc::Global;
 use std::sync::ledger::Ledger;
 use v_design::World;
 use vf_base::{NoMemory, Steps};
+use window_grade::RunBeside;
 use window_strobes::WindowStrobes;
 
 /// Keeps of a fault whose grading goes on behind so many slots of a window what its faulty machine has there.
@@ -56,15 +58,16 @@ pub(crate) fn settle<N: World, L: Ledger>(
     machine: &mut Machine<'_>,
     log: &mut SlotLog,
     own: &mut ShardFault,
+    beside: &RunBeside<'_>,
     steps: &mut Steps<L>,
 ) -> Result<(), NoMemory>
     requires end { window.now.before + end ≤ window.now.through }
-    requires fault { (before : ℕ) × CanSettle N.design N.plan before (window.now.before + end) strobes.now machine.old own.old }
+    requires fault { (before : ℕ) × CanSettle N.design N.plan before (window.now.before + end) strobes.now beside.now machine.old own.old }
     ensures fault { OnOk result (IsShardFault N.design N.plan (window.now.before + end) (passed_behind strobes.now) own.new) }
     ensures place { OnOk result (SameFault own.old own.new) }
     ensures stays { OnOk result (StaysOn machine.old machine.new) }
-    ensures ticks { OnOk result ((before : ℕ) (of : CanSettle N.design N.plan before (window.now.before + end) strobes.now machine.old own.old) →
-        RisesWithin (steps_taken N.design N.plan before of.fault None) (steps_taken N.design N.plan (window.now.before + end) of.fault own.new.end) steps.old steps.new) }
+    ensures ticks { OnOk result ((before : ℕ) (of : CanSettle N.design N.plan before (window.now.before + end) strobes.now beside.now machine.old own.old) →
+        RiseAtMostOwn N.design (plan_by (kept_by own.old) N.plan) before (window.now.before + end) (of.fault ∷ []) steps.old (steps.new + length beside.now.tried.now)) }
 {
     let plan = setup.plan();
     let watched = plan.watched.as_slice();
@@ -75,6 +78,7 @@ pub(crate) fn settle<N: World, L: Ledger>(
         watched,
         &mut own.strobed,
         strobes,
+        beside,
         steps,
     )?;
     if found.is_some() {

@@ -1,7 +1,7 @@
 // Window after window.
 
 ghost use Rattle.std.specs.Prelude.{◌≡◌, true, IfOk, OnOk};
-ghost use Rattle.kept_shard.specs.graded_steps.Behind.{RisesTwice};
+ghost use Rattle.own_gradings.specs.Numbers.{RisesOwn};
 ghost use Rattle.dict_windows.specs.Faults.{all_steps, faults_in};
 ghost use Rattle.dict_windows.specs.Windows.{AreThrough, GoesOn, RisesBeside, StandsBeside};
 
@@ -50,7 +50,7 @@ fn pass_window<'d, N: World, L: Ledger>(
     requires { StandsBeside N.design N.plan window.now.before beside.old }
     ensures stands { OnOk result (StandsBeside N.design N.plan window.now.through beside.new) }
     ensures faults { OnOk result (faults_in beside.new.shards.items ≡ faults_in beside.old.shards.items) }
-    ensures ticks { OnOk result (RisesTwice (all_steps N.design N.plan beside.old.shards.items) (all_steps N.design N.plan beside.new.shards.items) steps.old steps.new) }
+    ensures ticks { OnOk result (RisesOwn N.design N.plan (λ tally. all_steps tally beside.old.shards.items) (λ tally. all_steps tally beside.new.shards.items) steps.old steps.new) }
 {
     see_window(alloc, setup, window, &mut beside.good)?;
     advance_all(alloc, setup, window, &mut beside.shards, room, steps)?;

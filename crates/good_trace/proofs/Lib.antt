@@ -13,4 +13,4 @@ mod Unwritten
 mod ClosedWindows
 mod FewPhases
 mod FewRuns
-mod Beside
+mod Handing

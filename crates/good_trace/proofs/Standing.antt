@@ -53,9 +53,9 @@ TellsRun-found alike design plan before through count states runs index process 
       ∙ sym (told kept.code code reads.told (slice_get (ends_of phase process runs) number))
       ∙ sym (slice_get-map (told_by kept.code) (ends_of phase process runs) number)
       ∙ ap (λ l. slice_get l number) (ap (λ n. map (told_by kept.code) (ends_of n process runs)) at ∙ had.kept.runs_are.told place process one kept.code stands kept.here);
-  state_of = λ code run own there. (reads-alike alike design process kept.code code kept.is own).states run.state (states run (sym is ∙ there)).0;
+  state_of = λ code run own there. (reads-alike alike design process kept.code code kept.is own).states run.state (of-run run (sym is ∙ there)).0;
   stand = λ code run own there k d within.
-      (reads-alike alike design process kept.code code kept.is own).states (get_or run.steps k d).state ((states run (sym is ∙ there)).1 k d within);
+      (reads-alike alike design process kept.code code kept.is own).states (get_or run.steps k d).state ((of-run run (sym is ∙ there)).1 k d within);
 }
   where
     kept : HasCode design had.codes process
@@ -65,8 +65,8 @@ TellsRun-found alike design plan before through count states runs index process 
     told first second same None = refl
     told first second same (Some run) = ap Some (same run)
 
-    states : (run : RunEnd) → slice_get (ends_of phase process runs) number ≡ Some run → StandsIn (has-code design had.codes process had.kept.codes_are low).code run
-    states run there =
+    of-run : (run : RunEnd) → slice_get (ends_of phase process runs) number ≡ Some run → StandsIn (has-code design had.codes process had.kept.codes_are low).code run
+    of-run run there =
         let within : number < length (ends_of phase process runs) = slice_get_within (ends_of phase process runs) number run there in
         let same = get_or_from_slice_get (ends_of phase process runs) number run run there in
         let ends = subst (IsEndWithin had.codes (length (window_phases design plan before through))) same

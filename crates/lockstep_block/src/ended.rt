@@ -28,8 +28,15 @@ pub(crate) fn good_ended<'a, N: World>(
     ensures { (place : Place) (block rest : List Event) → IsShownAt N.design N.plan place before.now → place.left ≡ block ++ rest →
         IsShownAt N.design N.plan (behind_events block rest place) behind.now → map run_process result.now ≡ enders_in (good_machine N.design) (state_there (good_machine N.design) place) block }
 {
-    let runs = window.runs_in(before.slot());
-    &runs[before.runs()..behind.runs()]
+    let slot = before.slot();
+    let runs = window.runs_in(slot);
+    let from = before.runs();
+    let to = behind.runs();
+    if to <= from {
+        return &runs[..0];
+    }
+    let ended = &runs[from..to];
+    ended
 }
 
 /// Whether runs of the same processes ended, in the same order.

@@ -2,7 +2,7 @@
 use Rattle.std.specs.Prelude.{◌≡◌, ℕ, true, List, [], ◌∷◌, ◌++◌, map, Option, Some, None}
 use Rattle.v_design.specs.Trees.{Entry}
 use Rattle.v_design.specs.Designs.{Machine}
-use Rattle.v_design.specs.States.{State, Step, is_ready, process_at}
+use Rattle.v_design.specs.States.{State, Step, is_ready, next_activity, process_at, step_of}
 use Rattle.v_design.specs.Grades.{Phase}
 use Rattle.v_design.specs.Accesses.{ObjectAccess, Reading, Awaiting}
 use Rattle.causal_monitor.specs.Notes.{noted_access}
@@ -12,7 +12,14 @@ use Rattle.net_state.specs.declared.state.NetState.{NetState}
 use Rattle.net_state.specs.States.{machine_in, AreNetsOf}
 use Rattle.process_table.specs.declared.table.ProcessTable.{ProcessTable}
 use Rattle.process_table.specs.declared.deed.Stepped.{Stepped}
+use Rattle.process_code.specs.Points.{activity_of}
+use Rattle.process_code.specs.RunEnds.{act_of}
+use Rattle.process_code.specs.StatesOf.{IsStateOf}
+use Rattle.process_code.specs.declared.code.Code.{Code}
+use Rattle.process_code.specs.declared.state.ProcState.{ProcState}
+use Rattle.run_ends.specs.RunEnds.{IsCodeAt}
 use Rattle.process_table.specs.Deeds.{IsStepOf}
+use Rattle.process_table.specs.Known.{told_act}
 use Rattle.process_table.specs.Arranged.{IsKept, table_of}
 use Rattle.slot_record.specs.declared.record.SlotRecord.{SlotRecord}
 use Rattle.slot_record.specs.SlotRecords.{RecordsSlot, one_more, state_in}
@@ -33,6 +40,13 @@ pub record TellsQuiet (process line : ℕ) (read : Option ℕ) (entries : List E
   pub accesses : map noted_access told.accesses.items ≡ read_accesses process line read ++ entry_accesses process line entries
   pub changed : told.changed.items ≡ []
   pub ended : told.ended.items ≡ []
+
+-- the step that a process takes next in a state, as it is told: its line, what it did, and where the process stands behind it
+pub record TellsStepTaken (machine : Machine) (state : State) (process : ℕ) (stepped : Stepped) (behind : ProcState) : Type 0 where
+  pub line : stepped.line ≡ (step_of machine state process).line
+  pub act : told_act stepped.act stepped.later ≡ act_of state.time (step_of machine state process).action
+  pub stands : (code : Code) → IsCodeAt machine.design process code → IsStateOf code behind
+  pub does : (code : Code) → IsCodeAt machine.design process code → activity_of code behind ≡ next_activity state.values (step_of machine state process).action (step_of machine state process).next
 
 -- a ready process has taken a step in a state: the processes have it, and the values and the nodes are still those of the state
 pub record IsStepped (machine : Machine) (state : State) (process : ℕ) (stepped : Stepped) (nets : NetState) (table : ProcessTable) : Type 0 where

@@ -18,5 +18,5 @@ mod write;
 pub use lanes::{lane_alone, step_lane};
 pub use nodes::{node_alone, work_node};
 pub use phases::{begin_phase, later_time, slot_turn};
-pub use steps::{finish_step, follow_alone, step_alone, step_process};
+pub use steps::{StepAlone, finish_step, follow_alone, step_alone, step_process};
 pub use told::Told;

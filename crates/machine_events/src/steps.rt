@@ -16,7 +16,7 @@ ghost use Rattle.process_table.specs.Tables.{process_in};
 ghost use Rattle.slot_record.specs.SlotRecords.{one_more};
 ghost use Rattle.machine_events.specs.Alone.{AreOfOne, HappensTo};
 ghost use Rattle.machine_events.specs.Parts.{FitsDesign, AreBothOf, IsInSlot, Leads};
-ghost use Rattle.machine_events.specs.StepDeeds.{TellsQuiet, CarriesOut, IsMidStep, FinishesStep};
+ghost use Rattle.machine_events.specs.StepDeeds.{TellsQuiet, TellsStepTaken, CarriesOut, IsMidStep, FinishesStep};
 ghost use Rattle.machine_events.specs.There.{TouchesBelow, StepIsThere};
 
 use crate::notes::note_step;
@@ -166,7 +166,14 @@ pub fn finish_step(
     Ok(())
 }
 
-/// A ready process takes a step, of which no record is kept: `told` tells it, and `steps` ticks once. It answers what the step did.
+/// A step of which no record is kept: what it did, and where its process stands behind it.
+#[derive(Drop)]
+pub struct StepAlone {
+    pub stepped: Stepped,
+    pub state: ProcState,
+}
+
+/// A ready process takes a step, of which no record is kept: `told` tells it, and `steps` ticks once. It answers what the step did, and where the process stands behind it.
 ///
 /// # Errors
 ///
@@ -177,17 +184,20 @@ pub fn step_alone<L: Ledger>(
     told: &mut Told,
     process: ProcId,
     steps: &mut Steps<L>,
-) -> Result<Stepped, NoMemory>
+) -> Result<StepAlone, NoMemory>
     requires one { AreOfOne nets.old table.old }
     requires ready { is_ready (process_in (table_of table.old) (process_number process)).activity ≡ true }
     requires time { (table_of table.old).time ≤ 2 ^ 63 }
     requires there { StepIsThere (process_number process) nets.old table.old }
-    ensures happens { IfOk result (λ stepped. HappensTo (Step (process_number process)) stepped.line nets.old nets.new table.old table.new told.new) }
+    ensures happens { IfOk result (λ step. HappensTo (Step (process_number process)) step.stepped.line nets.old nets.new table.old table.new told.new) }
+    ensures step { IfOk result (λ step. (machine : Machine) (state : State) → AreBothOf machine state nets.old table.old →
+        TellsStepTaken machine state (process_number process) step.stepped step.state) }
     ensures ticks { OnOk result (steps.new ≡ raised steps.old) }
 {
     let stepped = table.step(process, &*nets, steps)?;
+    let state = table.copy_state(process)?;
     carry_out(nets, table, told, process, &stepped)?;
-    Ok(stepped)
+    Ok(StepAlone { stepped, state })
 }
 
 /// A ready process takes a step that is known, of which no record is kept: it does what the step does, and stands then at a state, which may be one of any code of the process; `told` tells it. Its code isn't run. It answers

@@ -17,11 +17,11 @@ use Rattle.v_design.specs.WellFormed.{KeepsRules, IsProcessOf, IsEntryOf, IsSize
 use Rattle.wait_index.specs.Waits.{waited_objects, all_waited, items_waited, entry_objects}
 use Rattle.process_table.specs.Waited.{any_change, piece_entries, waited_entries, all_entries, items_entries, IsWaitable, body_of}
 
-left : {A : Type 0} (P : A → Type 0) (xs ys : List A) → AllHold P (xs ++ ys) → AllHold P xs
+pub left : {A : Type 0} (P : A → Type 0) (xs ys : List A) → AllHold P (xs ++ ys) → AllHold P xs
 left P [] ys h = tt
 left P (x ∷ xs) ys h = (h.0, left P xs ys h.1)
 
-right : {A : Type 0} (P : A → Type 0) (xs ys : List A) → AllHold P (xs ++ ys) → AllHold P ys
+pub right : {A : Type 0} (P : A → Type 0) (xs ys : List A) → AllHold P (xs ++ ys) → AllHold P ys
 right P [] ys h = h
 right P (x ∷ xs) ys h = right P xs ys h.1
 

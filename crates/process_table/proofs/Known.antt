@@ -120,15 +120,15 @@ module _ (design : FlatDesign) (time : ℕ) (rows : List Row) (index : List (Lis
         table-step design time rows index ready lanes queue table bodies p state.values rows1 line said steps stage told_ready told_waits ready1 queue1 has low marked
         (held-as stage later queue1 is_later kept)
 
-    pub known-step : (stage : Stage) (told_ready told_waits : Bool) (queue1 : List HeldProcess) (stepped : Stepped) → HasStage (state_at (row_states rows1) p).activity stage told_ready told_waits →
-        p < length (row_states rows) →
-        queue1 ≡ change_at queue p (held_so (stage_holding stage) (option_to_list (option_map due_of stepped.later))) → stepped.line ≡ line → read_by stepped.act ≡ read_told (act_by act) →
+    pub known-step : (stage : Stage) (told_ready told_waits : Bool) (later : List LaterUpdate) (queue1 : List HeldProcess) (stepped : Stepped) →
+        HasStage (state_at (row_states rows1) p).activity stage told_ready told_waits → p < length (row_states rows) → later ≡ later_told (act_by act) →
+        queue1 ≡ change_at queue p (held_so (stage_holding stage) later) → stepped.line ≡ line → read_by stepped.act ≡ read_told (act_by act) →
         written_by stepped.act ≡ written_told (act_by act) →
         option_to_list (option_map due_of stepped.later) ≡ later_told (act_by act) → stepped.waits ≡ told_waits → stepped.ready ≡ told_ready →
         IsStepOf machine state p stepped (record { design = design; time = time; processes = processes_of (row_states rows1) queue1 })
-    known-step stage told_ready told_waits queue1 stepped has low kept lines reads writes latered waiting readied =
+    known-step stage told_ready told_waits later queue1 stepped has low is_later kept lines reads writes latered waiting readied =
         is-step design time rows index ready lanes queue table bodies p state.values rows1 line said steps stage told_ready told_waits queue1 stepped has low
-        (held-as stage (option_to_list (option_map due_of stepped.later)) queue1 latered kept) lines
+        (held-as stage later queue1 is_later kept) lines
         (reads ∙ ap read_told acts ∙ told-read time step.action ∙ read-said time step.action Done ∙ sym (read-said time step.action step.next))
         (writes ∙ ap written_told acts ∙ told-written time step.action ∙ written-said time step.action Done ∙ sym (written-said time step.action step.next))
         (latered ∙ laters) waiting readied machine state of refl

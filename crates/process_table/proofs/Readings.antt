@@ -32,8 +32,7 @@ use Rattle.process_table.specs.Deeds.{read_of}
 use Rattle.process_table.specs.Rows.{RowState, IsGoodRow, row_state, row_states, state_at, text_at, step_from}
 use Rattle.process_table.specs.Tables.{TableState, IsTableOf}
 use Rattle.process_table.specs.Waited.{body_of}
-use Rattle.process_table.specs.WaitedLaws.{hold-left, hold-right}
-use Rattle.process_table.proofs.Bodies.{bodies-below}
+use Rattle.process_table.proofs.Bodies.{bodies-below, left, right}
 use Rattle.process_table.proofs.Changed.{no_row}
 use Rattle.process_table.proofs.CodesAt.{code-at}
 use Rattle.process_table.proofs.Lists.{AllHold-at}
@@ -72,39 +71,39 @@ wait-below limit place condition body tasks false = tt
 statement-below : (limit now : ℕ) (operands : List LogicValue) (statement : Statement) (tasks : List Task) → AreBelow limit (named_by statement) →
     StepReads limit (statement_step now operands statement tasks)
 statement-below limit now operands Null tasks h = tt
-statement-below limit now operands (Block statements) tasks h = tt
+statement-below limit now operands (Block many) tasks h = tt
 statement-below limit now operands (If place condition first second) tasks h =
     reads-below (reads_most condition) limit _ _ operands (read_expression condition operands) _
-    (bounds-expression limit condition operands (hold-left _ (named_in condition) (named_by first ++ named_by second) h)) (λ value. tt)
+    (bounds-expression limit condition operands (left _ (named_in condition) (named_by first ++ named_by second) h)) (λ value. tt)
 statement-below limit now operands (Case place kind value items default) tasks h =
     reads-below (reads_most value + reads_most_items items) limit _ _ operands (read_case kind value items default operands) _
-    (bounds-case limit kind value items default operands (hold-left _ (named_in value) (named_by_items items ++ named_by default) h)
-    (hold-left _ (named_by_items items) (named_by default) (hold-right _ (named_in value) (named_by_items items ++ named_by default) h)))
+    (bounds-case limit kind value items default operands (left _ (named_in value) (named_by_items items ++ named_by default) h)
+    (left _ (named_by_items items) (named_by default) (right _ (named_in value) (named_by_items items ++ named_by default) h)))
     (λ statement. tt)
 statement-below limit now operands (For place first_targets first condition next_targets next body) tasks h =
     reads-below (reads_most first + reads_most_targets first_targets) limit _ _ operands (read_assignment place.line first_targets first operands) _
-    (bounds-assignment limit place.line first_targets first operands (hold-left _ (named_in_targets first_targets) _ h)
-    (hold-left _ (named_in first) _ (hold-right _ (named_in_targets first_targets) _ h)))
+    (bounds-assignment limit place.line first_targets first operands (left _ (named_in_targets first_targets) _ h)
+    (left _ (named_in first) _ (right _ (named_in_targets first_targets) _ h)))
     (λ updates. write-below limit place updates _)
 statement-below limit now operands (While place condition body) tasks h =
     reads-below (reads_most condition) limit _ _ operands (read_expression condition operands) _
-    (bounds-expression limit condition operands (hold-left _ (named_in condition) (named_by body) h)) (λ value. tt)
+    (bounds-expression limit condition operands (left _ (named_in condition) (named_by body) h)) (λ value. tt)
 statement-below limit now operands (Repeat place count body) tasks h =
     reads-below (reads_most count) limit _ _ operands (read_expression count operands) _
-    (bounds-expression limit count operands (hold-left _ (named_in count) (named_by body) h)) (λ value. tt)
+    (bounds-expression limit count operands (left _ (named_in count) (named_by body) h)) (λ value. tt)
 statement-below limit now operands (Forever place body) tasks h = tt
 statement-below limit now operands (Delay place delay body) tasks h = tt
 statement-below limit now operands (EventControl place entries body) tasks h = tt
 statement-below limit now operands (Wait place condition body) tasks h =
     reads-below (reads_most condition) limit _ _ operands (read_expression condition operands) _
-    (bounds-expression limit condition operands (hold-left _ (named_in condition) (named_by body) h)) (λ value. wait-below limit place condition body tasks _)
+    (bounds-expression limit condition operands (left _ (named_in condition) (named_by body) h)) (λ value. wait-below limit place condition body tasks _)
 statement-below limit now operands (Blocking place targets delay value) tasks h =
     reads-below (reads_most value + reads_most_targets targets) limit _ _ operands (read_assignment place.line targets value operands) _
-    (bounds-assignment limit place.line targets value operands (hold-left _ (named_in_targets targets) (named_in value) h) (hold-right _ (named_in_targets targets) (named_in value) h))
+    (bounds-assignment limit place.line targets value operands (left _ (named_in_targets targets) (named_in value) h) (right _ (named_in_targets targets) (named_in value) h))
     (λ updates. assignment-below limit place now delay updates tasks)
 statement-below limit now operands (Nonblocking place targets delay value) tasks h =
     reads-below (reads_most value + reads_most_targets targets) limit _ _ operands (read_assignment place.line targets value operands) _
-    (bounds-assignment limit place.line targets value operands (hold-left _ (named_in_targets targets) (named_in value) h) (hold-right _ (named_in_targets targets) (named_in value) h))
+    (bounds-assignment limit place.line targets value operands (left _ (named_in_targets targets) (named_in value) h) (right _ (named_in_targets targets) (named_in value) h))
     (λ updates. append-below limit place delay updates tasks)
 statement-below limit now operands (Finish place) tasks h = tt
 
@@ -161,15 +160,16 @@ found-low [] p row e = absurd (cc)
 found-low (first ∷ rows) zero row e = (omega arith, (let same : first ≡ row = cc in sym same))
 found-low (first ∷ rows) (suc p) row e = let rest = found-low rows p row e in (omega (arith, rest.0), rest.1)
 
+-- the number of objects of a table's design
+abbrev objects_of : ProcessTable → ℕ
+objects_of t = length (design_of t.design.now).objects
+
 -- what a process of a table reads next
 pub reads-there : (t : ProcessTable) → IsKept t → (machine : Machine) (state : State) → IsTableOf machine state (table_of t) → (p : ℕ) →
     IfSome (read_of (step_of machine state p).action) (λ (object : ℕ). object < length (design_of t.design.now).objects)
 reads-there t kept machine state of p =
-    subst (StepReads limit) (sym step) (go (slice_get t.rows.items p) refl)
+    subst (StepReads (objects_of t)) (sym step) (go (slice_get t.rows.items p) refl)
   where
-    abbrev limit : ℕ
-    limit = length (design_of t.design.now).objects
-
     step : step_of machine state p ≡ step_from (text_at (design_of t.design.now).processes p) t.time (found_or no_row (option_map row_state (slice_get t.rows.items p))).activity
     step =
         step-of machine state (table_of t) p of
@@ -178,11 +178,11 @@ reads-there t kept machine state of p =
         ∙ ap (λ (row : RowState). step_from (text_at (design_of t.design.now).processes p) t.time row.activity) (state-found t.rows.items p)
 
     go : (found : Option Row) → slice_get t.rows.items p ≡ found →
-        StepReads limit (step_from (text_at (design_of t.design.now).processes p) t.time (found_or no_row (option_map row_state found)).activity)
+        StepReads (objects_of t) (step_from (text_at (design_of t.design.now).processes p) t.time (found_or no_row (option_map row_state found)).activity)
     go None e = tt
     go (Some row) e =
         let low = found-low t.rows.items p row e in
         let at = code-at t kept p row low.0 low.1 in
-        state-below limit (text_at (design_of t.design.now).processes p) t.time row.code row.state (AllHold-at IsGoodRow t.rows.items p row kept.good low.0 low.1).state
-        (subst (λ (process : Option FlatProcess). AreBelow limit (named_by (found_or (text_at [] 0) process).body)) at.process_is
+        state-below (objects_of t) (text_at (design_of t.design.now).processes p) t.time row.code row.state (AllHold-at IsGoodRow t.rows.items p row kept.good low.0 low.1).state
+        (subst (λ (process : Option FlatProcess). AreBelow (objects_of t) (named_by (found_or (text_at [] 0) process).body)) at.process_is
         (bodies-below (design_of t.design.now) (rules_hold (design_of t.design.now) t.design.now.rules) p))

@@ -67,6 +67,14 @@ impl<'d> ProcessTable<'d> {
         self.time
     }
 
+    /// How many processes there are.
+    pub fn processes(&self) -> usize
+        requires kept { IsKept self.now }
+        ensures { result ≡ length (table_of self.now).design.processes }
+    {
+        self.design.processes.as_slice().len()
+    }
+
     /// The ready process with the least number.
     pub fn first_ready(&self) -> Option<ProcId>
         requires kept { IsKept self.now }

@@ -3,8 +3,11 @@
 ghost use Rattle.std.specs.Prelude.{◌≡◌};
 ghost use Rattle.std.specs.Option.{option_map};
 ghost use Rattle.v_design.specs.Plain.{update_of};
+ghost use Rattle.process_code.specs.RunEnds.{act_by};
 ghost use Rattle.process_table.specs.Deeds.{written_by};
+ghost use Rattle.process_table.specs.Known.{told_act};
 
+use process_code::StepAct;
 use v_design::{Due, Update};
 use vf_base::ObjectId;
 
@@ -37,6 +40,20 @@ impl Stepped {
             Some(Act::Write(update)) => Some(update),
             Some(Act::Read(_)) => None,
             None => None,
+        }
+    }
+
+    /// The step's act, as a step of a run keeps it.
+    pub fn kept_act(&self) -> StepAct
+        ensures { act_by result ≡ told_act self.now.act self.now.later }
+    {
+        match self.act {
+            Some(Act::Read(object)) => StepAct::Read(object),
+            Some(Act::Write(update)) => StepAct::Write(update),
+            None => match self.later {
+                Some(due) => StepAct::Append(due),
+                None => StepAct::Inner,
+            },
         }
     }
 }

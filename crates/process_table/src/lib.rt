@@ -10,8 +10,8 @@
 mod calls;
 mod deed;
 mod entries;
+mod follow;
 mod holds;
-mod known;
 mod puts;
 mod replace;
 mod row;

@@ -195,11 +195,7 @@ pub fn clear_rows(rows: &mut Vec<Row>)
 /// # Errors
 ///
 /// Want of memory.
-pub fn put_state(
-    rows: &mut Vec<Row>,
-    process: ProcId,
-    state: &ProcState,
-) -> Result<(), NoMemory>
+pub fn put_state(rows: &mut Vec<Row>, process: ProcId, state: &ProcState) -> Result<(), NoMemory>
     requires number { process_number process < length rows.old.items }
     requires state { IsStateAt rows.old.items (process_number process) state.now }
     ensures { OnOk result (PutsState rows.old.items rows.new.items (process_number process) state.now) }

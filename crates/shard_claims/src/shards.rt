@@ -4,7 +4,7 @@ ghost use Rattle.std.specs.Prelude.{◌≡◌, OnOk};
 ghost use Rattle.std.specs.List.{All};
 ghost use Rattle.fault_shards.specs.Shards.{representatives_of};
 ghost use Rattle.copy_shard.specs.Together.{claimed_steps};
-ghost use Rattle.copy_shard.specs.graded_steps.Behind.{RisesTwice};
+ghost use Rattle.own_gradings.specs.Numbers.{RisesOwn};
 ghost use Rattle.shard_claims.specs.Workers.{IsClaimed, numbers_of};
 
 use crate::round::Round;
@@ -29,7 +29,7 @@ pub(crate) fn advance_all<'d, N: World, G, L: Ledger>(
     requires { All (IsClaimed (representatives_of round.now.shards.now) round.now.window.now.before) shards.old.items }
     ensures through { OnOk result (All (IsClaimed (representatives_of round.now.shards.now) round.now.window.now.through) shards.new.items) }
     ensures numbers { OnOk result (numbers_of shards.new.items ≡ numbers_of shards.old.items) }
-    ensures ticks { OnOk result (RisesTwice (claimed_steps N.design N.plan shards.old.items) (claimed_steps N.design N.plan shards.new.items) steps.old steps.new) }
+    ensures ticks { OnOk result (RisesOwn N.design N.plan (λ tally. claimed_steps tally shards.old.items) (λ tally. claimed_steps tally shards.new.items) steps.old steps.new) }
 {
     advance_together(alloc, round.setup, round.window, shards, room, steps)?;
     Ok(())

@@ -2,7 +2,7 @@
 
 ghost use Rattle.std.specs.Prelude.{IfOk};
 ghost use Rattle.fault_shards.specs.Shards.{representatives_of};
-ghost use Rattle.copy_shard.specs.graded_steps.Behind.{RisesTwice};
+ghost use Rattle.own_gradings.specs.Numbers.{RisesOwn};
 ghost use Rattle.shard_claims.specs.Workers.{IsPlaceOf, IsWorkerAt, worker_steps};
 
 use crate::claim::claim_all;
@@ -35,7 +35,7 @@ fn work_in<'d, N: World, G: Gate, L: Ledger>(
     requires place { IsPlaceOf N.design N.plan round.now.shards.now round.now.board.now }
     requires at { IsWorkerAt (representatives_of round.now.shards.now) round.now.board.now round.now.window.now.before worker }
     ensures through { IfOk result (IsWorkerAt (representatives_of round.now.shards.now) round.now.board.now round.now.window.now.through) }
-    ensures ticks { IfOk result (λ after. RisesTwice (worker_steps N.design N.plan worker) (worker_steps N.design N.plan after) steps.old steps.new) }
+    ensures ticks { IfOk result (λ after. RisesOwn N.design N.plan (λ tally. worker_steps tally worker) (λ tally. worker_steps tally after) steps.old steps.new) }
 {
     let Worker {
         number,
@@ -76,7 +76,7 @@ pub fn work<N: World, G: Gate, L: Ledger>(
     requires place { IsPlaceOf N.design N.plan round.now.shards.now round.now.board.now }
     requires at { IsWorkerAt (representatives_of round.now.shards.now) round.now.board.now round.now.window.now.before worker }
     ensures through { IfOk result (IsWorkerAt (representatives_of round.now.shards.now) round.now.board.now round.now.window.now.through) }
-    ensures ticks { IfOk result (λ after. RisesTwice (worker_steps N.design N.plan worker) (worker_steps N.design N.plan after) steps.old steps.new) }
+    ensures ticks { IfOk result (λ after. RisesOwn N.design N.plan (λ tally. worker_steps tally worker) (λ tally. worker_steps tally after) steps.old steps.new) }
 {
     // The machine in it is of this thread alone.
     let mut room = ShardRoom::new(alloc);

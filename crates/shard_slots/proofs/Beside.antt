@@ -17,10 +17,9 @@ use Rattle.copy_lockstep.specs.phase_faults.Beside.{HasSite, ticked_of}
 use Rattle.copy_lockstep.specs.phase_faults.declared.beside.FaultBeside.{FaultBeside}
 use Rattle.copy_lockstep.specs.lockstep_slot.Beside.{BeginsSlotIf, ComesThroughSlot}
 use Rattle.copy_lockstep.specs.Entered.{EntersSlot}
-use Rattle.copy_lockstep.specs.Steps.{SlotsTakeSteps}
 use Rattle.window_faults.specs.declared.at.FaultAt.{FaultAt}
 use Rattle.window_faults.proofs.Lists.{all-at, sum-none, zip-back, zip-length}
-use Rattle.shard_slots.specs.Slots.{Enters, HaveEntered, HaveGone, TicksWithin, WentThrough, goes_beside}
+use Rattle.shard_slots.specs.Slots.{Enters, HaveEntered, HaveGone, TookOwn, WentThrough, goes_beside}
 
 -- a place of a list has an element
 at-there : {A : Type 0} (xs : List A) (i : ℕ) → i < length xs → (x : A) × (slice_get xs i ≡ Some x)
@@ -39,7 +38,7 @@ module _ (design : FlatDesign) (plan : TestPlan) (number : ℕ) where
       left = λ left. refl;
     };
     through = λ goes slot stands. absurd (let no : beside.goes ≡ false = rests in cc);
-    most = λ goes may. absurd (let no : beside.goes ≡ false = rests in cc);
+    tried = λ goes may. absurd (let no : beside.goes ≡ false = rests in cc);
   }
 
   none-goes : (first rest : Bool) → (first || rest) ≡ false → (first ≡ false) × (rest ≡ false)
@@ -69,36 +68,27 @@ module _ (design : FlatDesign) (plan : TestPlan) (before through slot : ℕ) whe
     pub begin-each : AllHold (BeginsSlotIf design plan before through slot) besides
     begin-each = of-each (BeginsSlotIf design plan before through slot) (λ own at beside enters. enters.begins)
 
-    -- nothing was ticked for them
+    -- they took no own step so far
     pub none-ticked : sum_by ticked_of besides ≡ 0
-    none-ticked = sum-none ticked_of besides (of-each (λ beside. ticked_of beside ≡ 0) (λ own at beside enters. enters.ticked))
+    none-ticked = sum-none ticked_of besides (of-each (λ beside. ticked_of beside ≡ 0) (λ own at beside enters. ap length enters.tried))
 
   -- one that went through it
-  module _ (law : SlotsTakeSteps) (own : ShardFault) (at : FaultAt) (old new : FaultBeside) (enters : Enters design plan before through slot own at old)
+  module _ (own : ShardFault) (at : FaultAt) (old new : FaultBeside) (enters : Enters design plan before through slot own at old)
       (comes : ComesThroughSlot design plan (before + slot) old new) where
-    ticks : (goes : Bool) → old.goes ≡ goes → (new.one.ticked ≡ 0) ⊎ ((at.slot ≡ slot) × TicksWithin design plan (fault_of old.fault) (before + slot) new.one.ticked own)
-    ticks false rests = inl (comes.stays.left rests ∙ enters.ticked)
-    ticks true goes =
+    tried : (goes : Bool) → old.goes ≡ goes → (new.one.tried.items ≡ []) ⊎ ((at.slot ≡ slot) × TookOwn design plan (fault_of old.fault) (before + slot) own at new.one.tried.items)
+    tried false rests = inl (comes.stays.left rests ∙ enters.tried)
+    tried true goes =
         let gone = enters.goes goes in
         let may = (enters.begins goes).may in
-        let most = comes.most goes may in
-        inr (
-          gone.slot_is,
-          record {
-            none = gone.enters.may.behind.none;
-            takes = λ count other place stands.
-                let takes = law.entered design plan (fault_of old.fault) (before + slot) at.passed at.seen count at.possible old.one.own.copy own other gone.enters may place stands in
-                omega (arith, takes, most);
-          },
-        )
+        inr (gone.slot_is, record { copy = old.one.own.copy; enters = gone.enters; may = may; in_slot = comes.tried goes may })
 
     went : WentThrough design plan before through slot own at new
     went = record {
       within = enters.within;
       come = enters.come;
       listed = enters.listed ∙ ap (λ (f : Fault). Some (fault_of f)) (sym comes.stays.fault);
-      ticked =
-          subst (λ (f : Fault). (new.one.ticked ≡ 0) ⊎ ((at.slot ≡ slot) × TicksWithin design plan (fault_of f) (before + slot) new.one.ticked own)) (sym comes.stays.fault) (ticks old.goes refl);
+      tried =
+          subst (λ (f : Fault). (new.one.tried.items ≡ []) ⊎ ((at.slot ≡ slot) × TookOwn design plan (fault_of f) (before + slot) own at new.one.tried.items)) (sym comes.stays.fault) (tried old.goes refl);
       goes = λ goes.
           let gone = enters.goes (comes.stays.before goes) in
           let rest = comes.stays.rest goes in
@@ -113,12 +103,12 @@ module _ (design : FlatDesign) (plan : TestPlan) (before through slot : ℕ) whe
           (comes.through goes first stands);
     }
 
-  pub have-gone : SlotsTakeSteps → (owns : List ShardFault) (ats : List FaultAt) (olds news : List FaultBeside) → HaveEntered design plan before through slot owns ats olds →
+  pub have-gone : (owns : List ShardFault) (ats : List FaultAt) (olds news : List FaultBeside) → HaveEntered design plan before through slot owns ats olds →
       AllZip (ComesThroughSlot design plan (before + slot)) olds news → HaveGone design plan before through slot owns ats news
-  have-gone law owns ats olds news are zip = record {
+  have-gone owns ats olds news are zip = record {
     count = are.count;
     beside = zip-length (ComesThroughSlot design plan (before + slot)) olds news zip ∙ are.beside;
     each = λ place own at beside here there one.
         let back = zip-back (ComesThroughSlot design plan (before + slot)) olds news place beside zip one in
-        went law own at back.0 beside (are.each place own at back.0 here there back.1) back.2;
+        went own at back.0 beside (are.each place own at back.0 here there back.1) back.2;
   }

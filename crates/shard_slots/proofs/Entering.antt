@@ -1,5 +1,5 @@
 -- What becomes of a fault at a slot (strobes by the plan; slots by IEEE 1364-2001, clause 5).
-use Rattle.std.proofs.Common.{◌≡◌, ℕ, suc, ◌+◌, ◌<◌, ◌≤◌, true, false, length, refl, sym, ap, subst, ◌∙◌, arith}
+use Rattle.std.proofs.Common.{◌≡◌, ℕ, suc, ◌+◌, ◌<◌, ◌≤◌, true, false, [], length, refl, sym, ap, subst, ◌∙◌, arith}
 use Rattle.std.specs.Prelude.{Option, Some, None, is_some, slice_get}
 use Rattle.v_design.specs.Designs.{FlatDesign, StuckAt, TestPlan}
 use Rattle.v_design.specs.Plain.{fault_of}
@@ -24,12 +24,12 @@ use Rattle.shard_slots.specs.Slots.{Enters}
 module _ (design : FlatDesign) (plan : TestPlan) (before through slot : ℕ) where
   -- it rests
   pub rests-there : (own : ShardFault) (at : FaultAt) (beside : FaultBeside) → IsWithin design plan before through own at → (own.end ≡ None → slot ≤ at.slot) →
-      slice_get plan.faults own.copy.fault ≡ Some (fault_of beside.fault) → beside.goes ≡ false → beside.one.ticked ≡ 0 → Enters design plan before through slot own at beside
-  rests-there own at beside within come listed rests ticked = record {
+      slice_get plan.faults own.copy.fault ≡ Some (fault_of beside.fault) → beside.goes ≡ false → beside.one.tried.items ≡ [] → Enters design plan before through slot own at beside
+  rests-there own at beside within come listed rests tried = record {
     within = within;
     come = come;
     listed = listed;
-    ticked = ticked;
+    tried = tried;
     goes = λ goes. absurd (let no : beside.goes ≡ false = rests in cc);
     begins = λ goes. absurd (let no : beside.goes ≡ false = rests in cc);
   }
@@ -37,8 +37,8 @@ module _ (design : FlatDesign) (plan : TestPlan) (before through slot : ℕ) whe
   -- it is passed over slots
   pub passed-there : (fault : StuckAt) (last : ℕ) (reached : Reached) (own : ShardFault) (at : FaultAt) (beside : FaultBeside) → before + last ≤ through →
       IsPassed design plan fault before slot last reached own → at.slot ≡ reached.slot → at.passed ≡ reached.passed →
-      slice_get plan.faults own.copy.fault ≡ Some (fault_of beside.fault) → beside.goes ≡ false → beside.one.ticked ≡ 0 → Enters design plan before through slot own at beside
-  passed-there fault last reached own at beside low passed slot_is passed_is listed rests ticked =
+      slice_get plan.faults own.copy.fault ≡ Some (fault_of beside.fault) → beside.goes ≡ false → beside.one.tried.items ≡ [] → Enters design plan before through slot own at beside
+  passed-there fault last reached own at beside low passed slot_is passed_is listed rests tried =
       let since = passed.since in
       let by = passed.by in
       let stood = passed.stands in
@@ -46,19 +46,19 @@ module _ (design : FlatDesign) (plan : TestPlan) (before through slot : ℕ) whe
       (within-there design plan before through reached.slot reached.passed own at slot_is passed_is (omega (arith, low, by))
       (subst (λ n. IsShardFault design plan n reached.passed own) (sym stood.gone_is) stood.behind.stands)
       (λ none. subst (λ n. HasPassed design plan n reached.passed) (sym stood.gone_is) stood.behind.has_passed))
-      (λ none. omega (arith, since, slot_is)) listed rests ticked
+      (λ none. omega (arith, since, slot_is)) listed rests tried
 
   -- its grading ended
   pub ended-there : FaultsGoOn → KeepsRules design → (own : ShardFault) (at : FaultAt) (beside : FaultBeside) → before + slot < through → HasEnded design plan (suc (before + slot)) own →
-      at.slot ≡ slot + 1 → slice_get plan.faults own.copy.fault ≡ Some (fault_of beside.fault) → beside.goes ≡ false → beside.one.ticked ≡ 0 → Enters design plan before through slot own at beside
-  ended-there law rules own at beside low ended slot_is listed rests ticked =
+      at.slot ≡ slot + 1 → slice_get plan.faults own.copy.fault ≡ Some (fault_of beside.fault) → beside.goes ≡ false → beside.one.tried.items ≡ [] → Enters design plan before through slot own at beside
+  ended-there law rules own at beside low ended slot_is listed rests tried =
       let next : suc (before + slot) ≡ before + (slot + 1) = omega arith in
       let some : is_some own.end ≡ true = ended.ended in
       rests-there own at beside
       (within-there design plan before through (slot + 1) at.passed own at slot_is refl (omega (arith, low))
       (subst (λ n. IsShardFault design plan n at.passed own) next (ended-later law design plan rules (suc (before + slot)) (suc (before + slot)) ended.passed at.passed own (omega arith) some ended.stands))
       (λ none. absurd (let no : is_some own.end ≡ false = ap is_some none in cc)))
-      (λ none. omega (arith, slot_is)) listed rests ticked
+      (λ none. omega (arith, slot_is)) listed rests tried
 
   -- it enters the slot
   pub enters-there : (window : WindowKept) (last : ℕ) (entering : Entering) (old own : ShardFault) (at : FaultAt) (beside : FaultBeside) → window.before ≡ before → window.through ≡ through →
@@ -69,7 +69,7 @@ module _ (design : FlatDesign) (plan : TestPlan) (before through slot : ℕ) whe
     within = within;
     come = λ none. omega (arith, slot_is);
     listed = listed;
-    ticked = ap (λ (one : FaultInSlot). one.ticked) one_is ∙ enters.begins.ticked;
+    tried = ap (λ (one : FaultInSlot). one.tried.items) one_is ∙ enters.begins.tried;
     goes = λ goes. record {
       slot_is = slot_is;
       more = (let early = enters.early in omega (arith, early, more));

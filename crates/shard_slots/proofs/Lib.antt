@@ -1,4 +1,5 @@
 pub mod Entering
+pub mod Numbers
 pub mod Leaving
 pub mod Looping
 pub mod Beside

@@ -4,10 +4,12 @@ use Rattle.v_design.specs.Designs.{FlatDesign, StuckAt, TestPlan}
 use Rattle.v_design.specs.Plain.{fault_of}
 use Rattle.v_design.specs.Runs.{FirstSlot}
 use Rattle.copy_laws.specs.Windows.{good_slots}
-use Rattle.copy_lockstep.specs.copy_window.ShardFaults.{IsShardFault, SameFault, steps_taken}
 use Rattle.copy_lockstep.specs.copy_window.declared.fault.ShardFault.{ShardFault}
-use Rattle.copy_lockstep.specs.lockstep_copies.Copies.{IsCopyInLockstep}
-use Rattle.copy_lockstep.specs.slot_laws.Copies.{lockstep_differences}
+use Rattle.copy_lockstep.specs.lockstep_block.Blocks.{TriedInSlot}
+use Rattle.copy_lockstep.specs.lockstep_copies.Copies.{IsCopyInLockstep, own_begins}
+use Rattle.copy_lockstep.specs.slot_laws.Copies.{MayBeginSlot, lockstep_differences}
+use Rattle.copy_state.specs.Kept.{CopyKept}
+use Rattle.good_runs.specs.declared.tried.TriedStep.{TriedStep}
 use Rattle.copy_lockstep.specs.phase_faults.declared.beside.FaultBeside.{FaultBeside}
 use Rattle.copy_lockstep.specs.lockstep_slot.Beside.{BeginsSlot}
 use Rattle.copy_lockstep.specs.Entered.{EntersSlot}
@@ -26,28 +28,29 @@ pub record GoesBeside (design : FlatDesign) (plan : TestPlan) (before slot : ℕ
   pub place : beside.one.own.copy.fault ≡ own.copy.fault
   pub states : beside.one.own.copy.states ≡ []
 
--- a fault before a slot: it has come to the slot, unless its grading ended; no process step was ticked for it in the slot; and where it enters it in lockstep, it may go through it
+-- a fault before a slot: it has come to the slot, unless its grading ended; it took no own step in the slot so far; and where it enters it in lockstep, it may go through it
 pub record Enters (design : FlatDesign) (plan : TestPlan) (before through slot : ℕ) (own : ShardFault) (at : FaultAt) (beside : FaultBeside) : Type 0 where
   pub within : IsWithin design plan before through own at
   pub come : own.end ≡ None → slot ≤ at.slot
   pub listed : slice_get plan.faults own.copy.fault ≡ Some (fault_of beside.fault)
-  pub ticked : beside.one.ticked ≡ 0
+  pub tried : beside.one.tried.items ≡ []
   pub goes : beside.goes ≡ true → GoesBeside design plan before slot own at beside
   pub begins : beside.goes ≡ true → BeginsSlot design plan (fault_of beside.fault) before through slot beside.one
 
--- a fault of which nothing was found entered a slot behind so many, and so many process steps were ticked for it there: behind the slot its grading has taken these at least
-pub record TicksWithin (design : FlatDesign) (plan : TestPlan) (fault : StuckAt) (gone ticked : ℕ) (own : ShardFault) : Type 0 where
-  pub none : own.end ≡ None
-  pub takes : (count : ℕ) (new : ShardFault) → SameFault own new → IsShardFault design plan (suc gone) count new →
-      steps_taken design plan gone fault None + ticked ≤ steps_taken design plan (suc gone) fault new.end
+-- a fault of which nothing was found entered a slot behind so many, and took these own steps there
+pub record TookOwn (design : FlatDesign) (plan : TestPlan) (fault : StuckAt) (gone : ℕ) (own : ShardFault) (at : FaultAt) (tried : List TriedStep) : Type 0 where
+  pub copy : CopyKept
+  pub enters : EntersSlot design plan fault gone at.passed own at.seen at.possible
+  pub may : MayBeginSlot design plan fault gone copy
+  pub in_slot : TriedInSlot design fault may.slot (own_begins design plan fault may.time may.slot) tried
 
--- a fault behind a slot that others went through beside it: where it went through it in lockstep, what is kept of it stands in lockstep behind the slot; where process steps were ticked for it,
--- it had entered the slot
+-- a fault behind a slot that others went through beside it: where it went through it in lockstep, what is kept of it stands in lockstep behind the slot; where it took own steps, it
+-- had entered the slot
 pub record WentThrough (design : FlatDesign) (plan : TestPlan) (before through slot : ℕ) (own : ShardFault) (at : FaultAt) (beside : FaultBeside) : Type 0 where
   pub within : IsWithin design plan before through own at
   pub come : own.end ≡ None → slot ≤ at.slot
   pub listed : slice_get plan.faults own.copy.fault ≡ Some (fault_of beside.fault)
-  pub ticked : (beside.one.ticked ≡ 0) ⊎ ((at.slot ≡ slot) × TicksWithin design plan (fault_of beside.fault) (before + slot) beside.one.ticked own)
+  pub tried : (beside.one.tried.items ≡ []) ⊎ ((at.slot ≡ slot) × TookOwn design plan (fault_of beside.fault) (before + slot) own at beside.one.tried.items)
   pub goes : beside.goes ≡ true → GoesBeside design plan before slot own at beside
   pub through_it : beside.goes ≡ true → (first : FirstSlot) → slice_get (good_slots design plan) (before + slot) ≡ Some first →
       IsCopyInLockstep design plan (fault_of beside.fault) (before + slot) first.begins.time (lockstep_differences beside.one.own.copy)

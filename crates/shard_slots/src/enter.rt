@@ -5,7 +5,7 @@ ghost use Rattle.std.specs.List.{AllZip};
 ghost use Rattle.v_design.specs.Plain.{fault_of};
 ghost use Rattle.copy_laws.specs.Windows.{good_slots};
 ghost use Rattle.copy_lockstep.specs.copy_window.ShardFaults.{SameFault};
-ghost use Rattle.window_faults.specs.Steps.{TakesNoFewer};
+ghost use Rattle.window_faults.specs.Steps.{StaysFault};
 ghost use Rattle.window_faults.specs.Within.{AreWithin, IsWithin};
 ghost use Rattle.shard_slots.specs.Slots.{Enters, HaveEntered};
 
@@ -95,9 +95,8 @@ fn enter_one<N: World>(
     requires within { IsWithin N.design N.plan view.now.window.now.before view.now.window.now.through own.old at.old }
     requires come { own.old.end ≡ None → slot ≤ at.old.slot }
     ensures enters { IfOk result (Enters N.design N.plan view.now.window.now.before view.now.window.now.through slot own.new at.new) }
-    ensures steps { OnOk result (TakesNoFewer N.design N.plan (view.now.window.now.before + slot) own.old own.new) }
+    ensures stays { OnOk result (StaysFault own.old own.new) }
 {
-    copy_lockstep::gradings_take_steps();
     let design = setup.design();
     let fault = listed_fault(setup, &own.copy);
     if own.end.is_some() {
@@ -130,7 +129,7 @@ pub(crate) fn enter_each<N: World>(
     requires more { view.now.window.now.before + last < length (good_slots N.design N.plan) }
     requires within { AreWithin N.design N.plan view.now.window.now.before view.now.window.now.through slot faults.old.items ats.old.items }
     ensures entered { IfOk result (λ besides. HaveEntered N.design N.plan view.now.window.now.before view.now.window.now.through slot faults.new.items ats.new.items besides.items) }
-    ensures faults { OnOk result (AllZip (TakesNoFewer N.design N.plan (view.now.window.now.before + slot)) faults.old.items faults.new.items) }
+    ensures faults { OnOk result (AllZip StaysFault faults.old.items faults.new.items) }
 {
     let mut besides = Vec::with_capacity(alloc, faults.len())?;
     'faults: for place in 0..faults.len() {

@@ -1,9 +1,9 @@
 // The faults of a shard behind a slot.
 
-ghost use Rattle.std.specs.Prelude.{◌≡◌, ◌+◌, ◌<◌, ◌≤◌, None, OnOk, sum_by};
+ghost use Rattle.std.specs.Prelude.{◌≡◌, ◌+◌, ◌<◌, ◌≤◌, None, OnOk, length, sum_by};
 ghost use Rattle.std.specs.List.{AllZip};
 ghost use Rattle.copy_lockstep.specs.copy_room.Rooms.{IsRoom};
-ghost use Rattle.copy_lockstep.specs.graded_steps.Behind.{RisesTwice};
+ghost use Rattle.own_gradings.specs.Numbers.{RisesOwn};
 ghost use Rattle.copy_lockstep.specs.window_strobes.Passed.{HasPassed};
 ghost use Rattle.copy_lockstep.specs.window_strobes.Strobes.{AreStrobesOf, passed_behind};
 ghost use Rattle.copy_lockstep.specs.phase_faults.Beside.{ticked_of};
@@ -12,7 +12,9 @@ ghost use Rattle.window_faults.specs.Within.{AreWithin, IsWithin};
 ghost use Rattle.shard_slots.specs.Slots.{HaveGone, WentThrough};
 
 use causal_monitor::SlotLog;
-use copy_lockstep::{FaultBeside, Machine, ShardFault, WindowStrobes, leave_slot};
+use copy_lockstep::{
+    FaultBeside, FaultInSlot, Machine, ShardFault, WindowStrobes, leave_slot, slots_take_own,
+};
 use good_trace::{Setup, TraceWindow};
 use std::alloc::Global;
 use std::sync::ledger::Ledger;
@@ -44,10 +46,11 @@ fn leave_one<N: World, L: Ledger>(
     ensures come { OnOk result (own.new.end ≡ None → slot + 1 ≤ at.new.slot) }
     ensures stays { OnOk result (StaysFault own.old own.new) }
     ensures room { OnOk result (IsRoom N.design machine.new) }
-    ensures ticks { OnOk result (RisesTwice (steps_of_fault N.design N.plan (window.now.before + slot) own.old) (steps_of_fault N.design N.plan (window.now.before + (slot + 1)) own.new)
-        steps.old (steps.new + beside.one.ticked)) }
+    ensures ticks { OnOk result (RisesOwn N.design N.plan (λ tally. steps_of_fault tally (window.now.before + slot) own.old) (λ tally. steps_of_fault tally (window.now.before + (slot + 1)) own.new)
+        steps.old (steps.new + length beside.one.tried.items)) }
 {
-    copy_lockstep::gradings_take_steps();
+    slots_take_own();
+    own_gradings::own_steps_rise();
     let design = setup.design();
     if own.end.is_some() {
         return Ok(());
@@ -77,8 +80,10 @@ fn leave_one<N: World, L: Ledger>(
         *at = comes_to(reached.slot, reached.passed);
         return Ok(());
     }
+    // What it took itself in the slot isn't taken again.
+    let FaultInSlot { tried, .. } = one;
     let came = run_whole(
-        alloc, setup, window, strobes, fault, machine, log, own, *at, steps,
+        alloc, setup, window, strobes, fault, &tried, machine, log, own, *at, steps,
     )?;
     *at = came;
     Ok(())
@@ -111,8 +116,8 @@ pub(crate) fn leave_each<N: World, L: Ledger>(
     ensures within { OnOk result (AreWithin N.design N.plan window.now.before window.now.through (slot + 1) faults.new.items ats.new.items) }
     ensures faults { OnOk result (AllZip StaysFault faults.old.items faults.new.items) }
     ensures room { OnOk result (IsRoom N.design machine.new) }
-    ensures ticks { OnOk result (RisesTwice (steps_of_faults N.design N.plan (window.now.before + slot) faults.old.items)
-        (steps_of_faults N.design N.plan (window.now.before + (slot + 1)) faults.new.items) steps.old (steps.new + sum_by ticked_of besides.items)) }
+    ensures ticks { OnOk result (RisesOwn N.design N.plan (λ tally. steps_of_faults tally (window.now.before + slot) faults.old.items)
+        (λ tally. steps_of_faults tally (window.now.before + (slot + 1)) faults.new.items) steps.old (steps.new + sum_by ticked_of besides.items)) }
 {
     let mut besides = besides;
     'faults: while let Some(beside) = besides.pop() {

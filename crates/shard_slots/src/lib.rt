@@ -3,7 +3,7 @@
 //! Behind the first window a fault is passed over the slots at a window's beginning that touch nothing of its copy (`window_faults`); from there on `go_through_window` takes the
 //! faults slot by slot. Those that may enter a slot in lockstep go through it beside one another (`lockstep_slot`); the others, and those that leave lockstep, are run whole
 //! through it by their machines. The main contract: behind the window each fault stands as a fault of a shard does, it is the same fault, and one whose grading had ended stays
-//! as it was; a counter rises by no more than twice the process steps that the gradings of the faults take in between (twice, since a slot that a fault leaves is run again).
+//! as it was; a counter rises by no more than the own steps of the faults in between: what a fault took itself in a slot that it leaves isn't taken again where the slot is run whole.
 #![tactic(auto)]
 
 mod enter;
@@ -12,7 +12,7 @@ mod room;
 mod slots;
 
 pub use copy_lockstep::{
-    ShardFault, WindowStrobes, begin_fault, empty_log, gradings_take_steps, new_fault, strobes_of,
+    ShardFault, WindowStrobes, begin_fault, empty_log, new_fault, strobes_of,
 };
 pub use room::SlotRoom;
 pub use slots::go_through_window;

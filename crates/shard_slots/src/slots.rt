@@ -5,7 +5,8 @@ ghost use Rattle.std.specs.List.{AllZip, list_any};
 ghost use Rattle.vf_base.specs.Lists.{AllHold};
 ghost use Rattle.copy_laws.specs.Windows.{good_slots, time_at};
 ghost use Rattle.copy_lockstep.specs.copy_room.Rooms.{IsRoom};
-ghost use Rattle.copy_lockstep.specs.graded_steps.Behind.{RisesTwice, RisesWithin};
+ghost use Rattle.copy_lockstep.specs.graded_steps.Behind.{RisesWithin};
+ghost use Rattle.own_gradings.specs.Numbers.{RisesOwn};
 ghost use Rattle.copy_lockstep.specs.window_strobes.Passed.{HasPassed};
 ghost use Rattle.copy_lockstep.specs.window_strobes.Strobes.{AreStrobesOf, passed_behind};
 ghost use Rattle.copy_lockstep.specs.lockstep_block.Rooms.{IsLockstepRoom};
@@ -23,7 +24,7 @@ use crate::room::SlotRoom;
 use causal_monitor::SlotLog;
 use copy_lockstep::{
     FaultBeside, LockstepRoom, LockstepWindow, Machine, NextTouches, ShardFault, WindowStrobes,
-    all_through_slot, end_of_lockstep, searches_begin, slots_take_steps,
+    all_through_slot, end_of_lockstep, searches_begin,
 };
 use good_trace::Setup;
 use run_trace::RunWindow;
@@ -97,11 +98,11 @@ fn go_slot<N: World, L: Ledger>(
     ensures faults { OnOk result (AllZip StaysFault faults.old.items faults.new.items) }
     ensures room { OnOk result (IsRoom N.design machine.new) }
     ensures lockstep { OnOk result (IsLockstepRoom N.design lockstep.new.runner lockstep.new.before lockstep.new.behind lockstep.new.counts) }
-    ensures ticks { OnOk result (RisesTwice (steps_of_faults N.design N.plan (view.now.window.now.before + slot) faults.old.items)
-        (steps_of_faults N.design N.plan (view.now.window.now.before + (slot + 1)) faults.new.items) steps.old steps.new) }
+    ensures ticks { OnOk result (RisesOwn N.design N.plan (λ tally. steps_of_faults tally (view.now.window.now.before + slot) faults.old.items)
+        (λ tally. steps_of_faults tally (view.now.window.now.before + (slot + 1)) faults.new.items) steps.old steps.new) }
 {
     searches_begin();
-    slots_take_steps();
+    own_gradings::own_steps_rise();
     let plan = setup.plan();
     let mut besides = enter_each(alloc, setup, view, faults, ats, slot, last)?;
     go_beside(
@@ -155,8 +156,8 @@ fn go_through<N: World, L: Ledger>(
     ensures faults { OnOk result (AllZip (ComesThrough N.design N.plan view.now.window.now.through (passed_behind strobes.now)) faults.old.items faults.new.items) }
     ensures room { OnOk result (IsRoom N.design machine.new) }
     ensures lockstep { OnOk result (IsLockstepRoom N.design lockstep.new.runner lockstep.new.before lockstep.new.behind lockstep.new.counts) }
-    ensures ticks { OnOk result (RisesTwice (steps_of_faults N.design N.plan view.now.window.now.before faults.old.items)
-        (steps_of_faults N.design N.plan view.now.window.now.through faults.new.items) steps.old steps.new) }
+    ensures ticks { OnOk result (RisesOwn N.design N.plan (λ tally. steps_of_faults tally view.now.window.now.before faults.old.items)
+        (λ tally. steps_of_faults tally view.now.window.now.through faults.new.items) steps.old steps.new) }
 {
     beside_laws::faults_go_on();
     let design = setup.design();
@@ -207,7 +208,7 @@ pub fn go_through_window<'d, N: World, L: Ledger>(
     requires now { run.now.before < length (good_slots N.design N.plan) → time_at N.design N.plan run.now.before ≡ Some now }
     requires faults { AllHold (IsShardFault N.design N.plan run.now.before strobes.now.passed) faults.old.items }
     ensures faults { OnOk result (AllZip (ComesThrough N.design N.plan run.now.through (passed_behind strobes.now)) faults.old.items faults.new.items) }
-    ensures ticks { OnOk result (RisesTwice (steps_of_faults N.design N.plan run.now.before faults.old.items) (steps_of_faults N.design N.plan run.now.through faults.new.items)
+    ensures ticks { OnOk result (RisesOwn N.design N.plan (λ tally. steps_of_faults tally run.now.before faults.old.items) (λ tally. steps_of_faults tally run.now.through faults.new.items)
         steps.old steps.new) }
 {
     let mut machine = room.machine;

@@ -1,6 +1,5 @@
 pub mod Lists
 pub mod Through
-pub mod Ticks
 pub mod Beginning
 pub use Rattle.shard_slots.proofs.window_faults as window_faults
 pub use Rattle.shard_slots.proofs.copy_window as copy_window

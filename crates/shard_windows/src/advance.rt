@@ -3,7 +3,7 @@
 ghost use Rattle.std.specs.Prelude.{◌≡◌, IfOk, OnOk};
 ghost use Rattle.std.specs.List.{AllZip, list_any};
 ghost use Rattle.vf_base.specs.Lists.{AllHold};
-ghost use Rattle.shard_slots.specs.graded_steps.Behind.{RisesTwice};
+ghost use Rattle.own_gradings.specs.Numbers.{RisesOwn};
 ghost use Rattle.shard_slots.specs.window_strobes.Passed.{HasPassed};
 ghost use Rattle.shard_slots.specs.window_strobes.Strobes.{AreStrobesOf, passed_behind};
 ghost use Rattle.shard_slots.specs.copy_window.ShardFaults.{IsShardFault};
@@ -38,10 +38,10 @@ fn begin_one<N: World, L: Ledger>(
     requires strobes { AreStrobesOf N.design N.plan window.now.before window.now.through strobes.now }
     requires fault { IsShardFault N.design N.plan window.now.before strobes.now.passed own.old }
     ensures fault { OnOk result (ComesThrough N.design N.plan window.now.through (passed_behind strobes.now) own.old own.new) }
-    ensures ticks { OnOk result (RisesTwice (steps_of_fault N.design N.plan window.now.before own.old) (steps_of_fault N.design N.plan window.now.through own.new) steps.old steps.new) }
+    ensures ticks { OnOk result (RisesOwn N.design N.plan (λ tally. steps_of_fault tally window.now.before own.old) (λ tally. steps_of_fault tally window.now.through own.new) steps.old steps.new) }
 {
     beside_laws::faults_go_on();
-    shard_slots::gradings_take_steps();
+    own_gradings::own_steps_rise();
     let design = setup.design();
     let _first = window.begins();
     if own.end.is_some() {
@@ -67,7 +67,7 @@ fn begin_each<N: World, L: Ledger>(
     requires strobes { AreStrobesOf N.design N.plan window.now.before window.now.through strobes.now }
     requires faults { AllHold (IsShardFault N.design N.plan window.now.before strobes.now.passed) faults.old.items }
     ensures faults { OnOk result (AllZip (ComesThrough N.design N.plan window.now.through (passed_behind strobes.now)) faults.old.items faults.new.items) }
-    ensures ticks { OnOk result (RisesTwice (steps_of_faults N.design N.plan window.now.before faults.old.items) (steps_of_faults N.design N.plan window.now.through faults.new.items)
+    ensures ticks { OnOk result (RisesOwn N.design N.plan (λ tally. steps_of_faults tally window.now.before faults.old.items) (λ tally. steps_of_faults tally window.now.through faults.new.items)
         steps.old steps.new) }
 {
     'faults: for place in 0..faults.len() {
@@ -93,7 +93,7 @@ fn advance_each<'d, N: World, L: Ledger>(
     requires now { IsTimeOf N.design N.plan window.now.before now }
     requires faults { AllHold (IsShardFault N.design N.plan window.now.before strobes.now.passed) faults.old.items }
     ensures faults { OnOk result (AllZip (ComesThrough N.design N.plan window.now.through (passed_behind strobes.now)) faults.old.items faults.new.items) }
-    ensures ticks { OnOk result (RisesTwice (steps_of_faults N.design N.plan window.now.before faults.old.items) (steps_of_faults N.design N.plan window.now.through faults.new.items)
+    ensures ticks { OnOk result (RisesOwn N.design N.plan (λ tally. steps_of_faults tally window.now.before faults.old.items) (λ tally. steps_of_faults tally window.now.through faults.new.items)
         steps.old steps.new) }
 {
     let trace = window.window();
@@ -137,10 +137,11 @@ pub fn advance_all<'d, N: World, L: Ledger>(
     requires faults { AllHold (IsShardFault N.design N.plan window.now.before reached.passed) faults.old.items }
     ensures reached { IfOk result (λ behind. HasReachedIfOpen N.design N.plan window.now.through behind faults.new.items) }
     ensures faults { IfOk result (λ behind. AllZip (ComesThrough N.design N.plan window.now.through behind.passed) faults.old.items faults.new.items) }
-    ensures ticks { IfOk result (λ _. RisesTwice (steps_of_faults N.design N.plan window.now.before faults.old.items) (steps_of_faults N.design N.plan window.now.through faults.new.items)
+    ensures ticks { IfOk result (λ _. RisesOwn N.design N.plan (λ tally. steps_of_faults tally window.now.before faults.old.items) (λ tally. steps_of_faults tally window.now.through faults.new.items)
         steps.old steps.new) }
 {
     beside_laws::faults_go_on();
+    own_gradings::own_steps_rise();
     let design = setup.design();
     let trace = window.window();
     let _first = trace.begins();

@@ -3,7 +3,7 @@
 //! `advance_all` takes some faults through the next window: through the first one each fault's machine is run from the start on; through any other the faults go slot by slot, side by
 //! side in lockstep with the good machine, or by their machines where they can't (`shard_slots`). Where no grading goes on, nothing is done. The main contract: behind the window each
 //! fault stands as a fault of a shard does, it is the same fault, and one whose grading had ended stays as it was; where some grading goes on, the answer is how far the good first run
-//! has come, by its strobes and its time; a counter rises by no more than twice the process steps that the gradings of the faults take in between.
+//! has come, by its strobes and its time; a counter rises by no more than the own steps of the faults in between.
 //!
 //! What is needed to take faults through slots stands in a `ShardRoom`: one serves all shards of a worker.
 #![tactic(auto)]
@@ -17,4 +17,4 @@ pub use advance::{advance_all, some_open};
 pub use fresh::fresh_faults;
 pub use reached::Reached;
 pub use room::ShardRoom;
-pub use shard_slots::{ShardFault, WindowStrobes, gradings_take_steps, strobes_of};
+pub use shard_slots::{ShardFault, WindowStrobes, strobes_of};

@@ -17,16 +17,16 @@ use Rattle.window_faults.specs.Steps.{StaysFault, TakesNoFewer, steps_of_fault}
 
 -- those of a listed fault
 pub steps-are : (design : FlatDesign) (plan : TestPlan) (gone : ℕ) (own : ShardFault) (fault : StuckAt) → slice_get plan.faults own.copy.fault ≡ Some fault →
-    steps_of_fault design plan gone own ≡ steps_taken design plan gone fault own.end
+    steps_of_fault tally gone own ≡ steps_taken design plan gone fault own.end
 steps-are design plan gone own fault listed = ap (λ (o : Option StuckAt). elim o as (λ _. ℕ) [ None ↦ 0 | Some f ↦ steps_taken design plan gone f own.end ]) listed
 
 -- as long as nothing was found
 pub steps-open : (design : FlatDesign) (plan : TestPlan) (gone : ℕ) (own : ShardFault) (fault : StuckAt) → slice_get plan.faults own.copy.fault ≡ Some fault → own.end ≡ None →
-    steps_of_fault design plan gone own ≡ steps_taken design plan gone fault None
+    steps_of_fault tally gone own ≡ steps_taken design plan gone fault None
 steps-open design plan gone own fault listed none = steps-are design plan gone own fault listed ∙ ap (steps_taken design plan gone fault) none
 
 -- a grading that ended takes no more
-pub steps-ended : (design : FlatDesign) (plan : TestPlan) (from until : ℕ) (own : ShardFault) → is_some own.end ≡ true → steps_of_fault design plan from own ≡ steps_of_fault design plan until own
+pub steps-ended : (design : FlatDesign) (plan : TestPlan) (from until : ℕ) (own : ShardFault) → is_some own.end ≡ true → steps_of_fault tally from own ≡ steps_of_fault tally until own
 steps-ended design plan from until own some = go (slice_get plan.faults own.copy.fault) own.end some
   where
     go : (found : Option StuckAt) (end : Option End) → is_some end ≡ true →
@@ -43,10 +43,10 @@ taken-same design plan kept gone fault (Some end) = refl
 
 module _ (take : GradingsTakeSteps) (design : FlatDesign) (plan : TestPlan) (rules : KeepsRules design) (from until : ℕ) (low : from ≤ until) where
   -- behind more slots no fewer
-  pub steps-later : (gone passed : ℕ) (own : ShardFault) → IsShardFault design plan gone passed own → steps_of_fault design plan from own ≤ steps_of_fault design plan until own
+  pub steps-later : (gone passed : ℕ) (own : ShardFault) → IsShardFault design plan gone passed own → steps_of_fault tally from own ≤ steps_of_fault tally until own
   steps-later gone passed own stands = go own.end refl
     where
-      go : (end : Option End) → own.end ≡ end → steps_of_fault design plan from own ≤ steps_of_fault design plan until own
+      go : (end : Option End) → own.end ≡ end → steps_of_fault tally from own ≤ steps_of_fault tally until own
       go None none =
           let a = steps-open design plan from own stands.fault stands.listed none in
           let b = steps-open design plan until own stands.fault stands.listed none in
@@ -60,7 +60,7 @@ module _ (take : GradingsTakeSteps) (design : FlatDesign) (plan : TestPlan) (rul
     same-fault : other.fault ≡ one.fault
     same-fault = same_Some other.fault one.fault (sym other.listed ∙ (ap (slice_get plan.faults) place.number ∙ one.listed))
 
-    pub steps-more : steps_of_fault design plan from old ≤ steps_of_fault design plan until new
+    pub steps-more : steps_of_fault tally from old ≤ steps_of_fault tally until new
     steps-more =
         let a = steps-open design plan from old one.fault one.listed none in
         let b = steps-are design plan until new one.fault (ap (slice_get plan.faults) place.number ∙ one.listed) in
@@ -73,10 +73,10 @@ module _ (take : GradingsTakeSteps) (design : FlatDesign) (plan : TestPlan) (rul
         omega (arith, a, b, a-by, to-by, more)
 
     -- and measured behind the first so many slots
-    pub steps-here : steps_of_fault design plan from old ≤ steps_of_fault design plan from new
+    pub steps-here : steps_of_fault tally from old ≤ steps_of_fault tally from new
     steps-here = go new.end refl
       where
-        go : (end : Option End) → new.end ≡ end → steps_of_fault design plan from old ≤ steps_of_fault design plan from new
+        go : (end : Option End) → new.end ≡ end → steps_of_fault tally from old ≤ steps_of_fault tally from new
         go None still =
             let a = steps-open design plan from old one.fault one.listed none in
             let b = steps-open design plan from new one.fault (ap (slice_get plan.faults) place.number ∙ one.listed) still in

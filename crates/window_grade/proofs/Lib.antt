@@ -1,4 +1,4 @@
-pub mod Rises
+pub mod OwnRises
 pub mod Slots
 pub mod Placed
 pub mod Passing

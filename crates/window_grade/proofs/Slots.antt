@@ -19,12 +19,14 @@ use Rattle.machine_laws.specs.SlotLoop.{SlotsBegin, slot_from}
 use Rattle.between_slots.specs.FewLaws.{fine-few}
 use Rattle.grade_laws.specs.Decisions.{NotBefore}
 use Rattle.grade_laws.specs.Grading.{faulty_stop}
+use Rattle.good_runs.specs.declared.tried.TriedStep.{TriedStep}
+use Rattle.good_trace.specs.BesideSlots.{TellsSlots}
 use Rattle.window_runs.specs.OfSlot.{TellsSlot}
 use Rattle.window_runs.specs.declared.slot.SlotRuns.{SlotRuns}
 use Rattle.own_counts.specs.Counts.{AtMostOwn}
 use Rattle.own_counts.specs.Joins.{IsByToo, fault_end}
 use Rattle.own_slots.specs.Slots.{TriedStepsGoOn, WereTried}
-use Rattle.machine.specs.BesideRuns.{TicksAtMostOwn}
+use Rattle.machine.specs.BesideRuns.{MayGoBeside, TicksAtMostOwn}
 use Rattle.machine.specs.Standing.{BeginsInFirstRun, IsStanding, RunsSlot, machine_kept, state_kept, begins_next, begun_within, outcome_of, next-is-following}
 use Rattle.machine.specs.declared.end.SlotEnd.{SlotEnd}
 use Rattle.machine.specs.declared.parts.Stage.TheVariants.{Between}
@@ -173,7 +175,7 @@ stop-since design plan fault now begins state run =
 
 -- the counter of the next slot
 pub slot-ticks : OwnStepsRise → (time : ℕ) (old : Simulated) (begins : State) (beside : RunBeside) (before after : ℕ) → begins_next old ≡ Some begins → begins.time ≡ time →
-    ((design : FlatDesign) (plan : TestPlan) (fault : StuckAt) (kept : Bool) (now : Option ℕ) → IsRunningAt design plan fault now old →
+    ((design : FlatDesign) (plan : TestPlan) (fault : StuckAt) (kept : Bool) (now : Option ℕ) → IsRunningAt design plan fault now old → time ≤ plan.end →
     IsKnownBeside design (plan_by kept plan) fault now time beside →
     TicksAtMostOwn (slot_beside (good_machine design) (faulty_machine design fault) (first_run (good_machine design) plan.end) (slot_from (faulty_machine design fault) begins))
     (length (tried_at beside time)) before after) → TicksSlotAt time old beside before after
@@ -183,13 +185,19 @@ slot-ticks rises time old begins beside before after is at ticks = λ design pla
     let low : begins.time ≤ plan.end = omega (arith, at, early) in
     let ahead = ahead-here design plan fault now old begins running is low in
     let stop = stop-since design plan fault now begins (state_kept old) (run-here design plan fault now old begins running is low) in
-    let own = ticks design plan fault kept now running known in
+    let own = ticks design plan fault kept now running early known in
     let most : raised_by own.0 before ≤ before + own.0 = raised-most own.0 before in
     let rose : after ≤ before + own.0 = (let same = own.1 in omega (arith, same, most)) in
     let here : begins.time ≤ fault_end design P fault = goes begins.time (omega (arith, at)) stop in
     subst (λ t. TicksTo design P fault beside now (Some t) before after) at
     (rises.slot design P fault beside now begins before own.0 after ahead here known.taken
     (subst (λ t. AtMostOwn (slot_beside (good_machine design) machine (first_run (good_machine design) plan.end) (slot_from machine begins)) (own.0 + length (tried_at beside t))) (sym at) own.2) rose)
+
+-- the slot that is next comes after the time so far
+pub next-after : RunsGoOn → (design : FlatDesign) (plan : TestPlan) (fault : StuckAt) (now : Option ℕ) (m : Simulated) (begins : State) → IsRunningAt design plan fault now m →
+    begins_next m ≡ Some begins → begins.time ≤ plan.end → IsAfter now begins.time
+next-after law design plan fault now m begins running is low =
+    law.later (faulty_machine design fault) plan.end now begins (state_kept m) (run-here design plan fault now m begins running is low)
 
 -- what is known of the slot that is next
 module _ (design : FlatDesign) (plan : TestPlan) (fault : StuckAt) (now : Option ℕ) (kept : Bool) (time : ℕ) (beside : RunBeside) (m : Simulated) (begins : State)
@@ -213,16 +221,56 @@ module _ (design : FlatDesign) (plan : TestPlan) (fault : StuckAt) (now : Option
       go true e =
           let same : begins.time ≡ beside.time = at ∙ eqb-true time beside.time e in
           subst (λ t. WereTried (good_machine design) (faulty_machine design fault) (phases_if (good_machine design) (slot_at (first_run (good_machine design) plan.end) t)) begins beside.tried.now) at
-          (known.taken.tried begins same (subst (λ (machine : Machine). BeginsInFirstRun machine begins) running.same_machine (running.standing.reached begins is)))
+          (known.taken.tried begins same (subst (λ (machine : Machine). BeginsPhase machine begins) running.same_machine (running.standing.begins begins is))
+          (subst (λ (machine : Machine). BeginsInFirstRun machine begins) running.same_machine (running.standing.reached begins is)))
       go false e =
           tried.none (good_machine design) (faulty_machine design fault) others begins
           (begin (faulty_machine design fault) begins (subst (λ (machine : Machine). BeginsPhase machine begins) running.same_machine (running.standing.begins begins is)))
 
--- the slot that is next comes after the time so far
-pub next-after : RunsGoOn → (design : FlatDesign) (plan : TestPlan) (fault : StuckAt) (now : Option ℕ) (m : Simulated) (begins : State) → IsRunningAt design plan fault now m →
-    begins_next m ≡ Some begins → begins.time ≤ plan.end → IsAfter now begins.time
-next-after law design plan fault now m begins running is low =
-    law.later (faulty_machine design fault) plan.end now begins (state_kept m) (run-here design plan fault now m begins running is low)
+-- it may be run beside it
+pub may-beside : RunsGoOn → SlotsBegin → TriedStepsGoOn → (design : FlatDesign) (plan : TestPlan) (fault : StuckAt) (now : Option ℕ) (kept : Bool) (time : ℕ) (beside : RunBeside) (m : Simulated) →
+    IsRunningAt design plan fault now m → time ≤ plan.end → (known : IsKnownBeside design (plan_by kept plan) fault now time beside) → next_of m ≡ Some time → (goods : SlotRuns) →
+    TellsSlot design time (phases_if (good_machine design) (slot_at known.slots time)) goods → (tried : List TriedStep) → tried ≡ tried_at beside time →
+    MayGoBeside (machine_kept m) (begins_next m) goods tried
+may-beside law begin go design plan fault now kept time beside m running early known next goods tells tried same = (
+  phases_if (good_machine design) (slot_at (first_run (good_machine design) plan.end) time),
+  λ begins is.
+      let list : List Phase = phases_if (good_machine design) (slot_at (first_run (good_machine design) plan.end) time) in
+      let at : begins.time ≡ time = some-is begins.time time (ap (option_map (λ (s : State). s.time)) (sym is) ∙ next) in
+      let after : IsAfter now time = subst (IsAfter now) at (next-after law design plan fault now m begins running is (omega (arith, at, early))) in
+      subst (λ (machine : Machine). TellsSlot machine.design begins.time list goods × WereTried (good_machine machine.design) machine list begins tried) (sym running.same_machine) (
+        subst (λ t. TellsSlot design t list goods) (sym at) (goods-tell design plan fault now kept time beside m begins running known is at after goods tells),
+        subst (WereTried (good_machine design) (faulty_machine design fault) list begins) (sym same)
+            (tried-there design plan fault now kept time beside m begins running known is at after begin go),
+      ),
+)
+
+-- and its counter then
+pub ticks-beside : RunsGoOn → SlotsBegin → TriedStepsGoOn → (time : ℕ) (beside : RunBeside) (m : Simulated) (begins : State) (goods : SlotRuns) (tried : List TriedStep) (before after : ℕ) →
+    begins_next m ≡ Some begins → begins.time ≡ time → ((design : FlatDesign) (slots : List FirstSlot) → TellsSlots design slots beside.slots →
+    TellsSlot design time (phases_if (good_machine design) (slot_at slots time)) goods) → tried ≡ tried_at beside time →
+    ((start : State) (good_slots : List FirstSlot) (found : Option FirstSlot) → begins_next m ≡ Some start → slot_at good_slots start.time ≡ found →
+    TellsSlot (machine_kept m).design start.time (phases_if (good_machine (machine_kept m).design) found) goods →
+    WereTried (good_machine (machine_kept m).design) (machine_kept m) (phases_if (good_machine (machine_kept m).design) found) start tried →
+    TicksAtMostOwn (slot_beside (good_machine (machine_kept m).design) (machine_kept m) good_slots (slot_from (machine_kept m) start)) (length tried) before after) →
+    (design : FlatDesign) (plan : TestPlan) (fault : StuckAt) (kept : Bool) (now : Option ℕ) → IsRunningAt design plan fault now m → time ≤ plan.end →
+    IsKnownBeside design (plan_by kept plan) fault now time beside →
+    TicksAtMostOwn (slot_beside (good_machine design) (faulty_machine design fault) (first_run (good_machine design) plan.end) (slot_from (faulty_machine design fault) begins))
+    (length (tried_at beside time)) before after
+ticks-beside law begin go time beside m begins goods tried before after is at tells same ticks design plan fault kept now running early known =
+    let good_slots : List FirstSlot = first_run (good_machine design) plan.end in
+    let after_now : IsAfter now time = subst (IsAfter now) at (next-after law design plan fault now m begins running is (omega (arith, at, early))) in
+    let F : Machine → Type 0 = λ (machine : Machine). TellsSlot machine.design begins.time (phases_if (good_machine machine.design) (slot_at good_slots begins.time)) goods →
+    WereTried (good_machine machine.design) machine (phases_if (good_machine machine.design) (slot_at good_slots begins.time)) begins tried →
+    TicksAtMostOwn (slot_beside (good_machine machine.design) machine good_slots (slot_from machine begins)) (length tried) before after in
+    let own : F (faulty_machine design fault) = subst F running.same_machine (ticks begins good_slots (slot_at good_slots begins.time) is refl) in
+    subst (λ (l : List TriedStep). TicksAtMostOwn (slot_beside (good_machine design) (faulty_machine design fault) good_slots (slot_from (faulty_machine design fault) begins)) (length l) before after) same
+    (own
+    (subst (λ t. TellsSlot design t (phases_if (good_machine design) (slot_at good_slots t)) goods) (sym at)
+    (goods-tell design plan fault now kept time beside m begins running known is at after_now goods (tells design known.slots known.tells)))
+    (subst (λ t. WereTried (good_machine design) (faulty_machine design fault) (phases_if (good_machine design) (slot_at good_slots t)) begins tried) (sym at)
+    (subst (WereTried (good_machine design) (faulty_machine design fault) (phases_if (good_machine design) (slot_at good_slots time)) begins) (sym same)
+    (tried-there design plan fault now kept time beside m begins running known is at after_now begin go))))
 
 -- the slot after it is later
 pub slot-rises : RunsGoOn → (design : FlatDesign) (plan : TestPlan) (fault : StuckAt) (time : ℕ) (m : Simulated) → IsRunningAt design plan fault (Some time) m → time ≤ plan.end →

@@ -2,6 +2,7 @@
 use Rattle.std.specs.Prelude.{◌≡◌, ℕ, ◌+◌, ◌≤◌, ◌&&◌, List, [], length, sum, Option, Some, find, nat_eq, if◌then◌else◌}
 use Rattle.std.specs.List.{AllZip}
 use Rattle.v_design.specs.Designs.{FlatDesign, StuckAt, TestPlan, good_machine, faulty_machine}
+use Rattle.v_design.specs.Laws.{BeginsPhase}
 use Rattle.v_design.specs.OwnSteps.{CountsOwn, ProcessRun, phases_if}
 use Rattle.v_design.specs.Runs.{FirstSlot, first_run}
 use Rattle.v_design.specs.States.{State}
@@ -38,7 +39,7 @@ slot_at slots time = find (λ (other : FirstSlot). nat_eq other.begins.time time
 -- the steps that were taken are those that the faulty machine took itself in its slot of that time, and within each stretch of its slots at most the own steps there
 pub record WereTaken (design : FlatDesign) (plan : TestPlan) (fault : StuckAt) (beside : RunBeside) : Type 0 where
   pub own : (from until : Option ℕ) → AtMostOwn (runs_between design plan from until fault) (tried_in beside from until)
-  pub tried : (begins : State) → begins.time ≡ beside.time → BeginsInFirstRun (faulty_machine design fault) begins →
+  pub tried : (begins : State) → begins.time ≡ beside.time → BeginsPhase (faulty_machine design fault) begins → BeginsInFirstRun (faulty_machine design fault) begins →
       WereTried (good_machine design) (faulty_machine design fault) (phases_if (good_machine design) (slot_at (first_run (good_machine design) plan.end) begins.time)) begins beside.tried.now
 
 -- behind one time and up to another it is known what the good machine's slots are, and which steps were taken

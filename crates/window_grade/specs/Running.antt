@@ -75,6 +75,7 @@ pub record CanRunSlot (time : ℕ) (beside : RunBeside) (m : Simulated) : Type 0
   pub now : Option ℕ
   pub kept : Bool
   pub at : IsRunningAt design plan fault now m
+  pub early : time ≤ plan.end
   pub known : IsKnownBeside design (plan_by kept plan) fault now time beside
 
 -- Slots up to a time

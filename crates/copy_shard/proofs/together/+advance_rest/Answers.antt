@@ -25,11 +25,12 @@ returns-in_default-clause-through g t c =
     no-shards g.N.World.design g.N.World.plan c.args.window.now.through c.args.shards.now.items c.pop.new.self.items none.0 none.1
 
 pub returns-in_default-clause-ticks : goal.returns-in_default-clause-ticks
-returns-in_default-clause-ticks g t c =
+returns-in_default-clause-ticks g t c tally =
     let none = none-popped _ c.args.shards.now c.pop.new.self c.in_default.is c.pop.ensures.cases in
-    let a = no-steps g.N.World.design g.N.World.plan c.args.shards.now.items none.0 in
-    let b = no-steps g.N.World.design g.N.World.plan c.pop.new.self.items none.1 in
-    omega (arith, a, b, c.in_ok-behind.ensures.ticks)
+    let a = no-steps g.N.World.design g.N.World.plan tally c.args.shards.now.items none.0 in
+    let b = no-steps g.N.World.design g.N.World.plan tally c.pop.new.self.items none.1 in
+    let rises = c.in_ok-behind.ensures.ticks tally in
+    omega (arith, a, b, rises)
 
 pub join_shard-requires-clause-reached : goal.join_shard-requires-clause-reached
 join_shard-requires-clause-reached g t c κs within =
@@ -99,19 +100,19 @@ returns-clause-faults g t c =
     c.args.window.now.through c.len-first.result c.in_ok-behind-2.behind c.in_ok-joined.ensures c.in_ok-behind-2.ensures.faults c.in_ok-behind-2.ensures.reached (omega (arith, size, c.len-first.ensures)))
 
 pub returns-clause-ticks : goal.returns-clause-ticks
-returns-clause-ticks g t c =
+returns-clause-ticks g t c tally =
     let size = c.args.faults.now.ok.0 in
     let design = g.N.World.design in
     let plan = g.N.World.plan in
     let at = all-last (HasGone c.args.window.now.before) c.pop.new.self.items c.args.shards.now.items c.in-Some.claimed c.in-Some.ensures.items c.requires.gone in
     let gone_is = c.ends-gone.ensures.number ∙ ap (λ (w : WindowKept). w.through) c.window-trace.ensures in
-    let rest : steps_of_faults design plan c.args.window.now.through c.leave_shard.new.faults.items
-    ≡ steps_of_faults design plan c.args.window.now.through (take c.len-first.result c.advance_rest.new.faults.items) =
-    ap (steps_of_faults design plan c.args.window.now.through) c.in_ok-shard.ensures.faults in
+    let rest : steps_of_faults tally c.args.window.now.through c.leave_shard.new.faults.items
+    ≡ steps_of_faults tally c.args.window.now.through (take c.len-first.result c.advance_rest.new.faults.items) =
+    ap (steps_of_faults tally c.args.window.now.through) c.in_ok-shard.ensures.faults in
     let rises = shards-rise design plan c.in-Some.claimed.shard c.args.faults.now.items c.join_shard.new.faults.items c.advance_rest.new.faults.items c.in_ok-joined.joined c.args.window.now.through
     c.len-first.result c.in_ok-behind-2.behind c.in_ok-joined.ensures c.in_ok-behind-2.ensures.faults c.in_ok-behind-2.ensures.reached (omega (arith, size, c.len-first.ensures))
-    c.args.window.now.before c.in-Some.claimed.number c.ends-gone.result c.args.shards.now.items c.pop.new.self.items c.advance_rest.new.shards.items c.push.new.self.items c.args.steps.now
+    tally c.args.window.now.before c.in-Some.claimed.number c.ends-gone.result c.args.shards.now.items c.pop.new.self.items c.advance_rest.new.shards.items c.push.new.self.items c.args.steps.now
     c.advance_rest.new.steps at gone_is c.in-Some.ensures.items
     (c.in_ok-push.ensures.items ∙ ap (λ (k : ShardKept). c.advance_rest.new.shards.items ++ claimed-as c.in-Some.claimed.number k ∷ []) c.in_ok-shard.ensures.shard)
-    c.in_ok-behind-2.ensures.ticks in
+    (c.in_ok-behind-2.ensures.ticks tally) in
     omega (arith, rest, rises)

@@ -17,9 +17,10 @@ advance_rest-requires-clause-faults g c κs within =
     subst (λ (l : List ShardFault). AllHold (IsShardFault g.N.World.design g.N.World.plan c.args.window.now.before 0) l) (sym c.new-none.ensures.items) tt
 
 pub returns-clause-ticks : goal.returns-clause-ticks
-returns-clause-ticks g c =
+returns-clause-ticks g c tally =
     let design = g.N.World.design in
     let plan = g.N.World.plan in
-    let before = no-faults design plan c.args.window.now.before c.new-none.result.items c.new-none.ensures.items in
-    let after = none-behind design plan c.args.window.now.through _ c.new-none.result.items c.advance_rest.new.faults.items c.new-none.ensures.items c.in_ok-advance_rest.ensures.faults in
-    omega (arith, before, after, c.in_ok-advance_rest.ensures.ticks)
+    let before = no-faults design plan tally c.args.window.now.before c.new-none.result.items c.new-none.ensures.items in
+    let after = none-behind design plan tally c.args.window.now.through _ c.new-none.result.items c.advance_rest.new.faults.items c.new-none.ensures.items c.in_ok-advance_rest.ensures.faults in
+    let rises = c.in_ok-advance_rest.ensures.ticks tally in
+    omega (arith, before, after, rises)

@@ -1,5 +1,5 @@
 -- What the step says is noted, and where it leaves its process.
-use Rattle.std.proofs.Common.{◌≡◌, ◌<◌, ◌∙◌, sym, subst}
+use Rattle.std.proofs.Common.{◌<◌, ◌∙◌, sym, subst}
 use Rattle.vf_base.specs.Base.{process_number}
 use Rattle.v_design.specs.Designs.{FlatDesign}
 use Rattle.net_state.specs.States.{values_in}

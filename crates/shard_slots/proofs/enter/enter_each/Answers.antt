@@ -4,18 +4,18 @@ use Rattle.std.specs.Prelude.{None, Some, slice_get}
 use Rattle.std.proofs.lemmas.List.{length-set, length_push}
 use Rattle.copy_lockstep.specs.copy_window.declared.fault.ShardFault.{ShardFault}
 use Rattle.copy_lockstep.specs.phase_faults.declared.beside.FaultBeside.{FaultBeside}
-use Rattle.window_faults.specs.Steps.{TakesNoFewer}
+use Rattle.window_faults.specs.Steps.{StaysFault}
 use Rattle.window_faults.specs.Within.{IsWithin}
 use Rattle.window_faults.specs.declared.at.FaultAt.{FaultAt}
 use Rattle.window_faults.proofs.Lists.{at-read, zip-length, zip-refl, zip-set}
 use Rattle.shard_slots.proofs.Looping.{more-beside, still-behind}
-use Rattle.window_faults.proofs.Steps.{takes-on, takes-same}
+use Rattle.window_faults.proofs.Steps.{stays-on, stays-same}
 use Rattle.shard_slots.specs.Slots.{Enters}
 use Rattle.shard_slots.proofs.enter.enter_each.Goals as goal
 
 pub faults-init : goal.faults-init
 faults-init g c = record {
-  zip = zip-refl (TakesNoFewer g.N.World.design g.N.World.plan (c.args.view.now.window.now.before + c.args.slot)) (takes-same g.N.World.design g.N.World.plan (c.args.view.now.window.now.before + c.args.slot)) c.args.faults.now.items;
+  zip = zip-refl StaysFault stays-same c.args.faults.now.items;
   count = c.requires.within.count;
   got = ap length c.in_ok-besides.ensures.items;
   most = omega arith;
@@ -26,24 +26,24 @@ faults-init g c = record {
 
 pub index_mut-own-requires : goal.index_mut-own-requires
 index_mut-own-requires g c =
-    let same = zip-length (TakesNoFewer g.N.World.design g.N.World.plan (c.args.view.now.window.now.before + c.args.slot)) c.args.faults.now.items c.faults.faults.items c.faults.invariant.zip in
+    let same = zip-length StaysFault c.args.faults.now.items c.faults.faults.items c.faults.invariant.zip in
     omega (arith, c.faults-test.true, c.len-place-end.ensures, same)
 
 pub index_mut-at-requires : goal.index_mut-at-requires
 index_mut-at-requires g c =
-    let same = zip-length (TakesNoFewer g.N.World.design g.N.World.plan (c.args.view.now.window.now.before + c.args.slot)) c.args.faults.now.items c.faults.faults.items c.faults.invariant.zip in
+    let same = zip-length StaysFault c.args.faults.now.items c.faults.faults.items c.faults.invariant.zip in
     omega (arith, c.faults-test.true, c.len-place-end.ensures, same, c.faults.invariant.count)
 
 pub enter_one-requires-clause-within : goal.enter_one-requires-clause-within
 enter_one-requires-clause-within g c κs within =
-    let same = zip-length (TakesNoFewer g.N.World.design g.N.World.plan (c.args.view.now.window.now.before + c.args.slot)) c.args.faults.now.items c.faults.faults.items c.faults.invariant.zip in
+    let same = zip-length StaysFault c.args.faults.now.items c.faults.faults.items c.faults.invariant.zip in
     c.faults.invariant.within c.faults.place c.index_mut-own.result.now c.index_mut-at.result.now (omega arith)
     (at-read c.faults.faults.items c.faults.place c.index_mut-own.result.now (omega (arith, c.faults-test.true, c.len-place-end.ensures, same)) c.index_mut-own.ensures.value)
     (at-read c.faults.ats.items c.faults.place c.index_mut-at.result.now (omega (arith, c.faults-test.true, c.len-place-end.ensures, same, c.faults.invariant.count)) c.index_mut-at.ensures.value)
 
 pub enter_one-requires-clause-come : goal.enter_one-requires-clause-come
 enter_one-requires-clause-come g c κs within =
-    let same = zip-length (TakesNoFewer g.N.World.design g.N.World.plan (c.args.view.now.window.now.before + c.args.slot)) c.args.faults.now.items c.faults.faults.items c.faults.invariant.zip in
+    let same = zip-length StaysFault c.args.faults.now.items c.faults.faults.items c.faults.invariant.zip in
     c.faults.invariant.come c.faults.place c.index_mut-own.result.now c.index_mut-at.result.now (omega arith)
     (at-read c.faults.faults.items c.faults.place c.index_mut-own.result.now (omega (arith, c.faults-test.true, c.len-place-end.ensures, same)) c.index_mut-own.ensures.value)
     (at-read c.faults.ats.items c.faults.place c.index_mut-at.result.now (omega (arith, c.faults-test.true, c.len-place-end.ensures, same, c.faults.invariant.count)) c.index_mut-at.ensures.value)
@@ -58,12 +58,12 @@ faults-preserved g c =
     let i = c.faults.place in
     let own = c.enter_one.new.own in
     let at = c.enter_one.new.at in
-    let same = zip-length (TakesNoFewer g.N.World.design g.N.World.plan (c.args.view.now.window.now.before + c.args.slot)) c.args.faults.now.items xs c.faults.invariant.zip in
+    let same = zip-length StaysFault c.args.faults.now.items xs c.faults.invariant.zip in
     let low : i < length xs = omega (arith, c.faults-test.true, c.len-place-end.ensures, same) in
     let R = Enters design plan window.before window.through c.args.slot in
     record {
-      zip = zip-set (TakesNoFewer g.N.World.design g.N.World.plan (c.args.view.now.window.now.before + c.args.slot)) (takes-on g.N.World.design g.N.World.plan (c.args.view.now.window.now.before + c.args.slot)) c.args.faults.now.items xs i c.index_mut-own.result.now own c.faults.invariant.zip c.index_mut-own.ensures.value (omega (arith, low, same))
-          c.in_ok-beside.ensures.steps;
+      zip = zip-set StaysFault stays-on c.args.faults.now.items xs i c.index_mut-own.result.now own c.faults.invariant.zip c.index_mut-own.ensures.value (omega (arith, low, same))
+          c.in_ok-beside.ensures.stays;
       count = length-set ys i at ∙ c.faults.invariant.count ∙ sym (length-set xs i own);
       got = ap length c.in_ok-push.ensures.items ∙ (length_push c.faults.besides.items c.in_ok-beside.beside ∙ ap (λ n. n + 1) c.faults.invariant.got);
       most = omega (arith, low, same);
@@ -76,7 +76,7 @@ faults-preserved g c =
 
 pub returns-clause-entered : goal.returns-clause-entered
 returns-clause-entered g c =
-    let same = zip-length (TakesNoFewer g.N.World.design g.N.World.plan (c.args.view.now.window.now.before + c.args.slot)) c.args.faults.now.items c.faults.faults.items c.faults.invariant.zip in
+    let same = zip-length StaysFault c.args.faults.now.items c.faults.faults.items c.faults.invariant.zip in
     record {
       count = c.faults.invariant.count;
       beside = omega (arith, c.faults.invariant.got, c.faults-test.false, c.faults.invariant.most, c.len-place-end.ensures, same);

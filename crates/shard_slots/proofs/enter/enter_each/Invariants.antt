@@ -4,7 +4,7 @@ use Rattle.std.specs.Prelude.{None, Some, slice_get}
 use Rattle.std.specs.List.{AllZip}
 use Rattle.copy_lockstep.specs.copy_window.declared.fault.ShardFault.{ShardFault}
 use Rattle.copy_lockstep.specs.phase_faults.declared.beside.FaultBeside.{FaultBeside}
-use Rattle.window_faults.specs.Steps.{TakesNoFewer}
+use Rattle.window_faults.specs.Steps.{StaysFault}
 use Rattle.window_faults.specs.Within.{IsWithin}
 use Rattle.window_faults.specs.declared.at.FaultAt.{FaultAt}
 use Rattle.shard_slots.specs.Slots.{Enters}
@@ -12,7 +12,7 @@ use Rattle.shard_slots.proofs.enter.enter_each.Given as goal
 
 abbrev pub invariant-faults : goal.invariant-faults
 invariant-faults g l = record {
-  zip : AllZip (TakesNoFewer g.N.World.design g.N.World.plan (l.view.window.now.before + l.slot)) l.initial.faults.items l.faults.items;
+  zip : AllZip StaysFault l.initial.faults.items l.faults.items;
   count : length l.ats.items ≡ length l.faults.items;
   got : length l.besides.items ≡ l.place;
   most : l.place ≤ length l.initial.faults.items;

@@ -3,9 +3,7 @@ use Rattle.std.proofs.Common.{◌≡◌, ℕ, ◌+◌, sym, ap, subst, ◌∙◌
 use Rattle.std.specs.Prelude.{Some}
 use Rattle.v_design.specs.Plain.{fault_of}
 use Rattle.v_design.specs.declared.plan.Fault.{Fault}
-use Rattle.copy_lockstep.specs.copy_window.ShardFaults.{IsShardFault}
-use Rattle.copy_lockstep.proofs.window_strobes.Knowing.{design-rules}
-use Rattle.window_faults.proofs.Steps.{stays-open, steps-here, takes-same}
+use Rattle.window_faults.proofs.Steps.{stays-open, stays-same}
 use Rattle.window_faults.proofs.Within.{is-listed, none-end}
 use Rattle.shard_slots.specs.Slots.{Enters}
 use Rattle.shard_slots.proofs.Entering.{rests-there}
@@ -21,8 +19,8 @@ returns-then-is_some-clause-enters g c =
     rests-there g.N.World.design g.N.World.plan window.before window.through c.args.slot c.args.own.now c.args.at.now c.rests.result c.requires.within c.requires.come
     (c.listed_fault-fault.ensures ∙ ap (λ (f : Fault). Some (fault_of f)) (sym c.rests.ensures.fault)) c.rests.ensures.rests c.rests.ensures.none
 
-pub returns-then-is_some-clause-steps : goal.returns-then-is_some-clause-steps
-returns-then-is_some-clause-steps g c = takes-same g.N.World.design g.N.World.plan (c.args.view.now.window.now.before + c.args.slot) c.args.own.now
+pub returns-then-is_some-clause-stays : goal.returns-then-is_some-clause-stays
+returns-then-is_some-clause-stays g c = stays-same c.args.own.now
 
 pub returns-then-slot-at-clause-enters : goal.returns-then-slot-at-clause-enters
 returns-then-slot-at-clause-enters g c =
@@ -30,8 +28,8 @@ returns-then-slot-at-clause-enters g c =
     rests-there g.N.World.design g.N.World.plan window.before window.through c.args.slot c.args.own.now c.args.at.now c.rests-then-slot-at.result c.requires.within c.requires.come
     (c.listed_fault-fault.ensures ∙ ap (λ (f : Fault). Some (fault_of f)) (sym c.rests-then-slot-at.ensures.fault)) c.rests-then-slot-at.ensures.rests c.rests-then-slot-at.ensures.none
 
-pub returns-then-slot-at-clause-steps : goal.returns-then-slot-at-clause-steps
-returns-then-slot-at-clause-steps g c = takes-same g.N.World.design g.N.World.plan (c.args.view.now.window.now.before + c.args.slot) c.args.own.now
+pub returns-then-slot-at-clause-stays : goal.returns-then-slot-at-clause-stays
+returns-then-slot-at-clause-stays g c = stays-same c.args.own.now
 
 pub enter_open-requires-clause-none : goal.enter_open-requires-clause-none
 enter_open-requires-clause-none g c κs within = none-end c.args.own.now.end (sym c.is_some.ensures ∙ c.if-is_some.false)
@@ -42,18 +40,6 @@ returns-clause-enters g c =
     let same : c.args.at.now.slot ≡ c.args.slot = omega (arith, c.if-slot-at.false, c.requires.come (none-end c.args.own.now.end (sym c.is_some.ensures ∙ c.if-is_some.false))) in
     subst (λ (n : ℕ). Enters g.N.World.design g.N.World.plan window.before window.through n c.enter_open.new.own c.enter_open.new.at c.in_ok-beside.beside) same c.in_ok-beside.ensures.enters
 
-pub returns-clause-steps : goal.returns-clause-steps
-returns-clause-steps g c =
-    let design = g.N.World.design in
-    let plan = g.N.World.plan in
-    let before = c.args.view.now.window.now.before in
-    let none = none-end c.args.own.now.end (sym c.is_some.ensures ∙ c.if-is_some.false) in
-    let same : c.args.at.now.slot ≡ c.args.slot = omega (arith, c.if-slot-at.false, c.requires.come none) in
-    let further = c.in_ok-beside.ensures.further in
-    record {
-      stays = stays-open c.args.own.now c.enter_open.new.own c.in_ok-beside.ensures.place none;
-      steps = steps-here c.gradings_take_steps.ensures design plan (design-rules design c.design-design.result.now c.design-design.ensures.world) (before + c.args.slot)
-          (before + c.enter_open.new.at.slot) (omega (arith, same, further)) c.args.at.now.passed c.enter_open.new.at.passed c.args.own.now c.enter_open.new.own none
-          c.in_ok-beside.ensures.place (subst (λ (n : ℕ). IsShardFault design plan (before + n) c.args.at.now.passed c.args.own.now) same c.requires.within.stands)
-          c.in_ok-beside.ensures.enters.within.stands;
-    }
+pub returns-clause-stays : goal.returns-clause-stays
+returns-clause-stays g c =
+    stays-open c.args.own.now c.enter_open.new.own c.in_ok-beside.ensures.place (none-end c.args.own.now.end (sym c.is_some.ensures ∙ c.if-is_some.false))

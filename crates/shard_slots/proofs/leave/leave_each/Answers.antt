@@ -25,14 +25,12 @@ faults-init g c = record {
   within = λ place own at past here there. (let low = slice_get_within c.args.faults.now.items place own here in absurd (omega (arith, past, low, c.requires.gone.beside)));
   come = λ place own at past here there none. (let low = slice_get_within c.args.faults.now.items place own here in absurd (omega (arith, past, low, c.requires.gone.beside)));
   room = c.requires.room;
-  ticks =
-      (let design = g.N.World.design in
-      let plan = g.N.World.plan in
-      let before = c.args.window.now.before in
+  ticks = λ tally.
+      (let before = c.args.window.now.before in
       let faults = c.args.faults.now.items in
-      let all : mixed (steps_of_fault design plan (before + (c.args.slot + 1))) (steps_of_fault design plan (before + c.args.slot)) (length c.args.besides.items) faults
-      ≡ steps_of_faults design plan (before + c.args.slot) faults =
-      mixed-all (steps_of_fault design plan (before + (c.args.slot + 1))) (steps_of_fault design plan (before + c.args.slot)) (length c.args.besides.items) faults
+      let all : mixed (steps_of_fault tally (before + (c.args.slot + 1))) (steps_of_fault tally (before + c.args.slot)) (length c.args.besides.items) faults
+      ≡ steps_of_faults tally (before + c.args.slot) faults =
+      mixed-all (steps_of_fault tally (before + (c.args.slot + 1))) (steps_of_fault tally (before + c.args.slot)) (length c.args.besides.items) faults
       (omega (arith, c.requires.gone.beside)) in
       omega (arith, all));
 }
@@ -96,18 +94,18 @@ faults-preserved g c =
       come = λ place u v past one two. from-there Q R xs ys i own at low c.faults.invariant.count c.in_ok-leave_one.ensures.come
           (λ j a b late here there. c.faults.invariant.come j a b (omega (arith, late, c.len-place.ensures, size, all)) here there) place u v (omega (arith, past, c.len-place.ensures)) one two;
       room = c.in_ok-leave_one.ensures.room;
-      ticks =
-          (let f = steps_of_fault design plan (window.before + (c.args.slot + 1)) in
-          let h = steps_of_fault design plan (window.before + c.args.slot) in
+      ticks = λ tally.
+          (let f = steps_of_fault tally (window.before + (c.args.slot + 1)) in
+          let h = steps_of_fault tally (window.before + c.args.slot) in
           let last : length c.faults.besides.items ≡ suc i = omega (arith, c.len-place.ensures, size, all) in
-          let so_far = subst (λ (n : ℕ). RisesSoFar (steps_of_faults design plan (window.before + c.args.slot) c.args.faults.now.items) (sum_by ticked_of c.args.besides.items)
-          (sum_by ticked_of c.faults.besides.items) c.args.steps.now (mixed f h n xs) c.faults.steps) last c.faults.invariant.ticks in
+          let so_far = subst (λ (n : ℕ). RisesSoFar (steps_of_faults tally (window.before + c.args.slot) c.args.faults.now.items) (sum_by ticked_of c.args.besides.items)
+          (sum_by ticked_of c.faults.besides.items) c.args.steps.now (mixed f h n xs) c.faults.steps) last (c.faults.invariant.ticks tally) in
           let left : sum_by ticked_of c.faults.besides.items ≡ sum_by ticked_of rest + ticked_of c.in-Some.beside =
           ap (sum_by ticked_of) c.in-Some.ensures.items ∙ sum-push ticked_of rest c.in-Some.beside in
-          subst (λ (n : ℕ). RisesSoFar (steps_of_faults design plan (window.before + c.args.slot) c.args.faults.now.items) (sum_by ticked_of c.args.besides.items)
+          subst (λ (n : ℕ). RisesSoFar (steps_of_faults tally (window.before + c.args.slot) c.args.faults.now.items) (sum_by ticked_of c.args.besides.items)
           (sum_by ticked_of rest) c.args.steps.now (mixed f h n (set xs i own)) c.leave_one.new.steps) place_is
           (one-more _ _ _ _ (mixed f h (suc i) xs) (mixed f h i (set xs i own)) (h c.index_mut-own.result.now) (f own) (ticked_of c.in-Some.beside) c.args.steps.now c.faults.steps
-          c.leave_one.new.steps so_far left (mixed-less f h i xs c.index_mut-own.result.now own low c.index_mut-own.ensures.value) c.in_ok-leave_one.ensures.ticks));
+          c.leave_one.new.steps so_far left (mixed-less f h i xs c.index_mut-own.result.now own low c.index_mut-own.ensures.value) (c.in_ok-leave_one.ensures.ticks tally)));
     }
 
 pub faults-smaller : goal.faults-smaller
@@ -129,15 +127,13 @@ pub returns-clause-faults : goal.returns-clause-faults
 returns-clause-faults g c = c.faults.invariant.zip
 
 pub returns-clause-ticks : goal.returns-clause-ticks
-returns-clause-ticks g c =
-    let design = g.N.World.design in
-    let plan = g.N.World.plan in
+returns-clause-ticks g c tally =
     let before = c.args.window.now.before in
-    let f = steps_of_fault design plan (before + (c.args.slot + 1)) in
-    let h = steps_of_fault design plan (before + c.args.slot) in
+    let f = steps_of_fault tally (before + (c.args.slot + 1)) in
+    let h = steps_of_fault tally (before + c.args.slot) in
     let none = none-popped _ c.faults.besides c.pop.new.self c.in_default.is c.pop.ensures.cases in
     let left = sum-empty ticked_of c.faults.besides.items none.0 in
-    let so_far = subst (λ (n : ℕ). RisesSoFar (steps_of_faults design plan (before + c.args.slot) c.args.faults.now.items) (sum_by ticked_of c.args.besides.items)
-    (sum_by ticked_of c.faults.besides.items) c.args.steps.now (mixed f h n c.faults.faults.items) c.faults.steps) none.0 c.faults.invariant.ticks in
+    let so_far = subst (λ (n : ℕ). RisesSoFar (steps_of_faults tally (before + c.args.slot) c.args.faults.now.items) (sum_by ticked_of c.args.besides.items)
+    (sum_by ticked_of c.faults.besides.items) c.args.steps.now (mixed f h n c.faults.faults.items) c.faults.steps) none.0 (c.faults.invariant.ticks tally) in
     let to = mixed-none f h c.faults.faults.items in
     omega (arith, left, so_far, to)

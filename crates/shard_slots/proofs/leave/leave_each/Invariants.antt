@@ -2,6 +2,7 @@
 use Rattle.std.proofs.Common.{◌≡◌, ℕ, ◌+◌, ◌≤◌, length}
 use Rattle.std.specs.Prelude.{None, Some, slice_get, sum_by}
 use Rattle.std.specs.List.{AllZip}
+use Rattle.own_gradings.specs.Numbers.{OwnStepsOf}
 use Rattle.copy_lockstep.specs.copy_room.Rooms.{IsRoom}
 use Rattle.copy_lockstep.specs.phase_faults.Beside.{ticked_of}
 use Rattle.copy_lockstep.specs.copy_window.declared.fault.ShardFault.{ShardFault}
@@ -26,9 +27,9 @@ invariant-faults g l = record {
   come : (place : ℕ) (own : ShardFault) (at : FaultAt) → length l.besides.items ≤ place → slice_get l.faults.items place ≡ Some own → slice_get l.ats.items place ≡ Some at → own.end ≡ None →
       l.slot + 1 ≤ at.slot;
   room : IsRoom g.N.World.design l.machine;
-  ticks :
-      RisesSoFar (steps_of_faults g.N.World.design g.N.World.plan (l.window.before + l.slot) l.fn.faults.items) (sum_by ticked_of l.fn.besides.items) (sum_by ticked_of l.besides.items)
-      l.fn.steps (mixed (steps_of_fault g.N.World.design g.N.World.plan (l.window.before + (l.slot + 1))) (steps_of_fault g.N.World.design g.N.World.plan (l.window.before + l.slot)) (length l.besides.items) l.faults.items) l.steps;
+  ticks : (tally : OwnStepsOf g.N.World.design g.N.World.plan) →
+      RisesSoFar (steps_of_faults tally (l.window.before + l.slot) l.fn.faults.items) (sum_by ticked_of l.fn.besides.items) (sum_by ticked_of l.besides.items)
+      l.fn.steps (mixed (steps_of_fault tally (l.window.before + (l.slot + 1))) (steps_of_fault tally (l.window.before + l.slot)) (length l.besides.items) l.faults.items) l.steps;
 }
 
 abbrev pub decreases-faults : goal.decreases-faults

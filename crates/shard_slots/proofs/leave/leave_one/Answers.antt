@@ -1,13 +1,15 @@
 -- Passed, through in lockstep, or whole.
-use Rattle.std.proofs.Common.{◌≡◌, ℕ, ◌+◌, true, false, sym, ap, subst, ◌∙◌, arith}
+use Rattle.std.proofs.Common.{◌≡◌, ℕ, ◌+◌, true, false, [], ◌∷◌, length, sym, ap, subst, ◌∙◌, arith}
 use Rattle.std.specs.Prelude.{None, is_some}
 use Rattle.copy_lockstep.proofs.window_strobes.Knowing.{design-rules}
 use Rattle.v_design.specs.Plain.{fault_of}
-use Rattle.copy_lockstep.specs.graded_steps.Behind.{RisesWithin}
-use Rattle.copy_lockstep.specs.copy_window.ShardFaults.{IsShardFault, steps_taken}
+use Rattle.copy_laws.specs.Windows.{RiseAtMostOwn}
+use Rattle.fault_strobes.specs.Said.{plan_by}
+use Rattle.copy_lockstep.specs.copy_window.ShardFaults.{kept_by}
+use Rattle.window_beside.specs.Tried.{MayTry}
 use Rattle.window_faults.proofs.Steps.{stays-open, stays-same}
 use Rattle.window_faults.proofs.Within.{has-come, none-end, within-there}
-use Rattle.shard_slots.proofs.Leaving.{none-ticked, rests-within, through-within, whole-within}
+use Rattle.shard_slots.proofs.Leaving.{may-try, none-tried, rests-within, through-within, whole-within}
 use Rattle.shard_slots.proofs.leave.leave_one.Goals as goal
 
 -- a fault whose grading ended
@@ -24,12 +26,12 @@ pub returns-then-is_some-clause-stays : goal.returns-then-is_some-clause-stays
 returns-then-is_some-clause-stays g c = stays-same c.args.own.now
 
 pub returns-then-is_some-clause-ticks : goal.returns-then-is_some-clause-ticks
-returns-then-is_some-clause-ticks g c =
+returns-then-is_some-clause-ticks g c tally =
     let window = c.args.window.now in
     let some : is_some c.args.own.now.end ≡ true = sym c.is_some.ensures ∙ c.if-is_some.true in
-    rests-within c.gradings_take_steps.ensures g.N.World.design g.N.World.plan (design-rules g.N.World.design c.design-design.result.now c.design-design.ensures.world) window.before window.through
-    c.args.slot c.args.own.now c.args.at.now c.args.beside c.requires.went c.args.steps.now
-    (none-ticked c.gradings_take_steps.ensures g.N.World.design g.N.World.plan (design-rules g.N.World.design c.design-design.result.now c.design-design.ensures.world) window.before window.through
+    rests-within c.own_steps_rise.ensures g.N.World.design g.N.World.plan (design-rules g.N.World.design c.design-design.result.now c.design-design.ensures.world) window.before window.through
+    c.args.slot c.args.own.now c.args.at.now c.args.beside c.requires.went tally c.args.steps.now
+    (none-tried c.own_steps_rise.ensures g.N.World.design g.N.World.plan (design-rules g.N.World.design c.design-design.result.now c.design-design.ensures.world) window.before window.through
     c.args.slot c.args.own.now c.args.at.now c.args.beside c.requires.went (λ at none. (let no : is_some c.args.own.now.end ≡ false = ap is_some none in cc)))
 
 -- one that passed the slot
@@ -43,11 +45,11 @@ pub returns-then-slot-at-clause-stays : goal.returns-then-slot-at-clause-stays
 returns-then-slot-at-clause-stays g c = stays-same c.args.own.now
 
 pub returns-then-slot-at-clause-ticks : goal.returns-then-slot-at-clause-ticks
-returns-then-slot-at-clause-ticks g c =
+returns-then-slot-at-clause-ticks g c tally =
     let window = c.args.window.now in
-    rests-within c.gradings_take_steps.ensures g.N.World.design g.N.World.plan (design-rules g.N.World.design c.design-design.result.now c.design-design.ensures.world) window.before window.through
-    c.args.slot c.args.own.now c.args.at.now c.args.beside c.requires.went c.args.steps.now
-    (none-ticked c.gradings_take_steps.ensures g.N.World.design g.N.World.plan (design-rules g.N.World.design c.design-design.result.now c.design-design.ensures.world) window.before window.through
+    rests-within c.own_steps_rise.ensures g.N.World.design g.N.World.plan (design-rules g.N.World.design c.design-design.result.now c.design-design.ensures.world) window.before window.through
+    c.args.slot c.args.own.now c.args.at.now c.args.beside c.requires.went tally c.args.steps.now
+    (none-tried c.own_steps_rise.ensures g.N.World.design g.N.World.plan (design-rules g.N.World.design c.design-design.result.now c.design-design.ensures.world) window.before window.through
     c.args.slot c.args.own.now c.args.at.now c.args.beside c.requires.went (λ at none. absurd (omega (arith, at, c.if-slot-at.true))))
 
 -- one that went through it in lockstep
@@ -82,20 +84,24 @@ returns-then-goes-clause-stays g c =
     stays-open c.args.own.now c.leave_slot.new.own c.in_ok-reached.ensures.place (none-end c.args.own.now.end (sym c.is_some.ensures ∙ c.if-is_some.false))
 
 pub returns-then-goes-clause-ticks : goal.returns-then-goes-clause-ticks
-returns-then-goes-clause-ticks g c =
+returns-then-goes-clause-ticks g c tally =
     let window = c.args.window.now in
-    let none = none-end c.args.own.now.end (sym c.is_some.ensures ∙ c.if-is_some.false) in
-    through-within c.gradings_take_steps.ensures g.N.World.design g.N.World.plan (design-rules g.N.World.design c.design-design.result.now c.design-design.ensures.world) window.before window.through
-    c.args.slot c.args.own.now c.args.at.now c.args.beside c.requires.went (c.requires.went.goes c.if-goes.true).slot_is none c.in_ok-reached.reached.passed c.leave_slot.new.own
-    c.in_ok-reached.ensures.place
-    (subst (λ (n : ℕ). IsShardFault g.N.World.design g.N.World.plan (window.before + n) c.in_ok-reached.reached.passed c.leave_slot.new.own) c.in_ok-reached.ensures.slot
-    c.in_ok-reached.ensures.fault.stands) c.args.steps.now
+    through-within c.own_steps_rise.ensures g.N.World.design g.N.World.plan (design-rules g.N.World.design c.design-design.result.now c.design-design.ensures.world) window.before window.through
+    c.args.slot c.args.own.now c.args.at.now c.args.beside c.requires.went c.slots_take_own.ensures tally c.leave_slot.new.own c.args.steps.now c.in_ok-reached.ensures.place
 
 -- one that is run whole through it
 pub run_whole-requires-clause-slot : goal.run_whole-requires-clause-slot
 run_whole-requires-clause-slot g c κs within =
     let come = c.requires.went.come (none-end c.args.own.now.end (sym c.is_some.ensures ∙ c.if-is_some.false)) in
     omega (arith, c.requires.slot, c.if-slot-at.false, come)
+
+pub run_whole-requires-clause-tried : goal.run_whole-requires-clause-tried
+run_whole-requires-clause-tried g c κs within =
+    let own = c.args.own.now in
+    let come = c.requires.went.come (none-end own.end (sym c.is_some.ensures ∙ c.if-is_some.false)) in
+    let same : c.args.slot ≡ c.args.at.now.slot = omega (arith, c.if-slot-at.false, come) in
+    subst (λ (n : ℕ). MayTry g.N.World.design (plan_by (kept_by own) g.N.World.plan) (c.args.window.now.before + n) (fault_of c.args.beside.fault) c.args.beside.one.tried.items) same
+    (may-try c.slots_take_own.ensures g.N.World.design g.N.World.plan c.args.window.now.before c.args.window.now.through c.args.slot own c.args.at.now c.args.beside c.requires.went)
 
 pub run_whole-requires-clause-fault : goal.run_whole-requires-clause-fault
 run_whole-requires-clause-fault g c κs within =
@@ -111,17 +117,13 @@ pub returns-clause-stays : goal.returns-clause-stays
 returns-clause-stays g c = stays-open c.args.own.now c.run_whole.new.own c.in_ok-came.ensures.place (none-end c.args.own.now.end (sym c.is_some.ensures ∙ c.if-is_some.false))
 
 pub returns-clause-ticks : goal.returns-clause-ticks
-returns-clause-ticks g c =
-    let design = g.N.World.design in
-    let plan = g.N.World.plan in
+returns-clause-ticks g c tally =
     let window = c.args.window.now in
-    let own = c.run_whole.new.own in
-    let none = none-end c.args.own.now.end (sym c.is_some.ensures ∙ c.if-is_some.false) in
+    let own = c.args.own.now in
+    let none = none-end own.end (sym c.is_some.ensures ∙ c.if-is_some.false) in
     let come = c.requires.went.come none in
     let same : c.args.at.now.slot ≡ c.args.slot = omega (arith, c.if-slot-at.false, come) in
-    let behind : c.in_ok-came.came.slot ≡ c.args.slot + 1 = omega (arith, c.in_ok-came.ensures.slot, same) in
-    whole-within c.gradings_take_steps.ensures design plan (design-rules design c.design-design.result.now c.design-design.ensures.world) window.before window.through
-    c.args.slot c.args.own.now c.args.at.now c.args.beside c.requires.went same none c.in_ok-came.came.passed own c.in_ok-came.ensures.place
-    (subst (λ (n : ℕ). IsShardFault design plan (window.before + n) c.in_ok-came.came.passed own) behind c.in_ok-came.ensures.within.stands) c.args.steps.now c.run_whole.new.steps
-    (subst (λ (n : ℕ). RisesWithin (steps_taken design plan (window.before + n) (fault_of c.args.beside.fault) None) (steps_taken design plan (window.before + (n + 1)) (fault_of c.args.beside.fault) own.end)
-    c.args.steps.now c.run_whole.new.steps) same c.in_ok-came.ensures.ticks)
+    whole-within c.own_steps_rise.ensures g.N.World.design g.N.World.plan (design-rules g.N.World.design c.design-design.result.now c.design-design.ensures.world) window.before window.through
+    c.args.slot c.args.own.now c.args.at.now c.args.beside c.requires.went tally c.run_whole.new.own c.args.steps.now c.run_whole.new.steps c.in_ok-came.ensures.place
+    (subst (λ (n : ℕ). RiseAtMostOwn g.N.World.design (plan_by (kept_by own) g.N.World.plan) (window.before + n) (window.before + (n + 1)) (fault_of c.args.beside.fault ∷ []) c.args.steps.now
+    (c.run_whole.new.steps + length c.args.beside.one.tried.items)) same c.in_ok-came.ensures.ticks)

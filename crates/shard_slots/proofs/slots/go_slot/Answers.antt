@@ -1,9 +1,10 @@
 -- In, through and out.
-use Rattle.std.proofs.Common.{◌+◌}
-use Rattle.window_faults.specs.Steps.{StaysFault, TakesNoFewer, steps_of_fault}
-use Rattle.window_faults.proofs.Lists.{zip-join, zip-law, zip-sums}
+use Rattle.std.proofs.Common.{◌+◌, arith}
+use Rattle.window_faults.specs.Steps.{StaysFault, steps_of_faults}
+use Rattle.window_faults.proofs.Lists.{zip-join}
 use Rattle.window_faults.proofs.Steps.{stays-on}
 use Rattle.shard_slots.proofs.Leaving.{slot-rises}
+use Rattle.shard_slots.proofs.Numbers.{same-all}
 use Rattle.shard_slots.proofs.Beside.{begin-each, have-gone, none-ticked, sites}
 use Rattle.shard_slots.proofs.slots.go_slot.Goals as goal
 
@@ -19,23 +20,18 @@ go_beside-requires-clause-sites g c κs within =
 
 pub leave_each-requires-clause-gone : goal.leave_each-requires-clause-gone
 leave_each-requires-clause-gone g c κs within =
-    have-gone g.N.World.design g.N.World.plan c.args.view.now.window.now.before c.args.view.now.window.now.through c.args.slot c.slots_take_steps.ensures c.enter_each.new.faults.items
+    have-gone g.N.World.design g.N.World.plan c.args.view.now.window.now.before c.args.view.now.window.now.through c.args.slot c.enter_each.new.faults.items
     c.enter_each.new.ats.items c.in_ok-besides.besides.items c.go_beside.new.besides.items c.in_ok-besides.ensures.entered c.in_ok-go_beside.ensures.besides
 
 pub returns-clause-faults : goal.returns-clause-faults
 returns-clause-faults g c =
-    zip-join StaysFault stays-on c.args.faults.now.items c.enter_each.new.faults.items c.leave_each.new.faults.items
-    (zip-law (TakesNoFewer g.N.World.design g.N.World.plan (c.args.view.now.window.now.before + c.args.slot)) StaysFault (λ x y takes. takes.stays) c.args.faults.now.items
-    c.enter_each.new.faults.items c.in_ok-besides.ensures.faults)
-    c.in_ok-leave_each.ensures.faults
+    zip-join StaysFault stays-on c.args.faults.now.items c.enter_each.new.faults.items c.leave_each.new.faults.items c.in_ok-besides.ensures.faults c.in_ok-leave_each.ensures.faults
 
 pub returns-clause-ticks : goal.returns-clause-ticks
-returns-clause-ticks g c =
-    let design = g.N.World.design in
-    let plan = g.N.World.plan in
+returns-clause-ticks g c tally =
     let here = c.args.view.now.window.now.before + c.args.slot in
-    let more = zip-sums (TakesNoFewer design plan here) (steps_of_fault design plan here) (steps_of_fault design plan here) (λ x y takes. takes.steps) c.args.faults.now.items
-    c.enter_each.new.faults.items c.in_ok-besides.ensures.faults in
-    let none = none-ticked design plan c.args.view.now.window.now.before c.args.view.now.window.now.through c.args.slot c.enter_each.new.faults.items c.enter_each.new.ats.items
+    let same = same-all tally here c.args.faults.now.items c.enter_each.new.faults.items c.in_ok-besides.ensures.faults in
+    let none = none-ticked g.N.World.design g.N.World.plan c.args.view.now.window.now.before c.args.view.now.window.now.through c.args.slot c.enter_each.new.faults.items c.enter_each.new.ats.items
     c.in_ok-besides.besides.items c.in_ok-besides.ensures.entered in
-    slot-rises _ _ _ _ _ c.args.steps.now c.go_beside.new.steps c.leave_each.new.steps more none c.in_ok-go_beside.ensures.ticks c.in_ok-leave_each.ensures.ticks
+    slot-rises (steps_of_faults tally here c.args.faults.now.items) (steps_of_faults tally here c.enter_each.new.faults.items) _ _ _ c.args.steps.now c.go_beside.new.steps c.leave_each.new.steps
+    (omega (arith, same)) none c.in_ok-go_beside.ensures.ticks (c.in_ok-leave_each.ensures.ticks tally)

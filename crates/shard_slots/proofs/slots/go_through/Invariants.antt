@@ -1,8 +1,9 @@
 -- So far the faults have come to a slot.
 use Rattle.std.specs.Prelude.{◌+◌, ◌≤◌}
 use Rattle.std.specs.List.{AllZip}
+use Rattle.own_gradings.specs.Numbers.{OwnStepsOf}
 use Rattle.copy_lockstep.specs.copy_room.Rooms.{IsRoom}
-use Rattle.copy_lockstep.specs.graded_steps.Behind.{RisesTwice}
+use Rattle.copy_lockstep.specs.graded_steps.Behind.{RisesWithin}
 use Rattle.copy_lockstep.specs.lockstep_block.Rooms.{IsLockstepRoom}
 use Rattle.window_faults.specs.Steps.{StaysFault, steps_of_faults}
 use Rattle.window_faults.specs.Within.{AreWithin}
@@ -15,6 +16,6 @@ invariant-slots g l = record {
   zip : AllZip StaysFault l.fn.faults.items l.faults.items;
   room : IsRoom g.N.World.design l.machine;
   lockstep : IsLockstepRoom g.N.World.design l.lockstep.runner l.lockstep.before l.lockstep.behind l.lockstep.counts;
-  ticks :
-      RisesTwice (steps_of_faults g.N.World.design g.N.World.plan l.view.window.now.before l.fn.faults.items) (steps_of_faults g.N.World.design g.N.World.plan (l.view.window.now.before + l.slot) l.faults.items) l.fn.steps l.steps;
+  ticks : (tally : OwnStepsOf g.N.World.design g.N.World.plan) →
+      RisesWithin (steps_of_faults tally l.view.window.now.before l.fn.faults.items) (steps_of_faults tally (l.view.window.now.before + l.slot) l.faults.items) l.fn.steps l.steps;
 }

@@ -5,7 +5,7 @@ use Rattle.std.specs.List.{AllZip}
 use Rattle.vf_base.specs.Lists.{AllHold}
 use Rattle.copy_laws.specs.Windows.{good_slots, time_at}
 use Rattle.good_trace.specs.Traces.{WindowKept}
-use Rattle.copy_lockstep.specs.graded_steps.Behind.{RisesTwice}
+use Rattle.copy_lockstep.specs.graded_steps.Behind.{RisesWithin}
 use Rattle.copy_lockstep.specs.window_strobes.Passed.{HasPassed}
 use Rattle.copy_lockstep.specs.window_strobes.Strobes.{AreStrobesOf, passed_behind}
 use Rattle.copy_lockstep.specs.copy_window.ShardFaults.{IsShardFault}
@@ -48,6 +48,6 @@ returns-clause-faults g c =
     c.view_of-view.ensures.window c.in_ok-go_through.ensures.faults
 
 pub returns-clause-ticks : goal.returns-clause-ticks
-returns-clause-ticks g c =
-    subst (λ (w : WindowKept). RisesTwice (steps_of_faults g.N.World.design g.N.World.plan w.before c.args.faults.now.items)
-    (steps_of_faults g.N.World.design g.N.World.plan w.through c.go_through.new.faults.items) c.args.steps.now c.go_through.new.steps) c.view_of-view.ensures.window c.in_ok-go_through.ensures.ticks
+returns-clause-ticks g c tally =
+    subst (λ (w : WindowKept). RisesWithin (steps_of_faults tally w.before c.args.faults.now.items)
+    (steps_of_faults tally w.through c.go_through.new.faults.items) c.args.steps.now c.go_through.new.steps) c.view_of-view.ensures.window (c.in_ok-go_through.ensures.ticks tally)

@@ -11,7 +11,7 @@ use Rattle.shard_slots.specs.copy_window.ShardFaults.{IsShardFault}
 use Rattle.shard_slots.specs.window_faults.Within.{ComesThrough}
 use Rattle.shard_windows.specs.Reached.{is_open}
 use Rattle.shard_windows.proofs.Through.{all-ended, keeps-rules, time-behind}
-use Rattle.shard_windows.proofs.Ticks.{same-rises, taken-ended}
+use Rattle.shard_slots.proofs.Numbers.{all-rise}
 use Rattle.shard_windows.proofs.advance.advance_all.Goals as goal
 
 pub returns-then-not-some_open-clause-reached : goal.returns-then-not-some_open-clause-reached
@@ -65,10 +65,11 @@ returns-clause-faults g c =
     c.in_ok-advance_each.ensures.faults
 
 pub returns-then-not-some_open-clause-ticks : goal.returns-then-not-some_open-clause-ticks
-returns-then-not-some_open-clause-ticks g c =
-    same-rises _ _ c.args.steps.now
-    (taken-ended g.N.World.design g.N.World.plan c.args.window.now.before c.args.window.now.through c.args.faults.now.items
-    (sym (c.some_open.ensures ∙ ap (list_any is_open) c.deref.ensures.value) ∙ c.if-not-some_open.true))
+returns-then-not-some_open-clause-ticks g c tally =
+    let some : c.args.window.now.before < c.args.window.now.through = subst (λ (w : WindowKept). w.before < w.through) c.window-trace.ensures c.begins-first.ensures.window.some in
+    let rise = all-rise c.own_steps_rise.ensures g.N.World.design g.N.World.plan (keeps-rules g.N.World.design c.design-design.result.now c.design-design.ensures.world) tally c.args.window.now.before
+    c.args.window.now.through (omega (arith, some)) c.args.window.now.before c.args.reached.passed c.args.faults.now.items c.requires.faults in
+    omega (arith, rise)
 
 pub returns-clause-ticks : goal.returns-clause-ticks
 returns-clause-ticks g c = c.in_ok-advance_each.ensures.ticks

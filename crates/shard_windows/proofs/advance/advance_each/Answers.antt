@@ -3,7 +3,7 @@ use Rattle.std.proofs.Common.{◌≡◌, sym, ap, subst, ◌∙◌, arith}
 use Rattle.std.specs.List.{AllZip}
 use Rattle.vf_base.specs.Lists.{AllHold}
 use Rattle.good_trace.specs.Traces.{WindowKept}
-use Rattle.shard_slots.specs.graded_steps.Behind.{RisesTwice}
+use Rattle.shard_slots.specs.graded_steps.Behind.{RisesWithin}
 use Rattle.shard_slots.specs.window_strobes.Strobes.{AreStrobesOf, passed_behind}
 use Rattle.shard_slots.specs.copy_window.ShardFaults.{IsShardFault}
 use Rattle.shard_slots.specs.window_faults.Steps.{steps_of_faults}
@@ -27,9 +27,9 @@ returns-then-begins-eq0-clause-faults g c =
     c.window-trace.ensures c.in_ok-begin_each.ensures.faults
 
 pub returns-then-begins-eq0-clause-ticks : goal.returns-then-begins-eq0-clause-ticks
-returns-then-begins-eq0-clause-ticks g c =
-    subst (λ (w : WindowKept). RisesTwice (steps_of_faults g.N.World.design g.N.World.plan w.before c.args.faults.now.items)
-    (steps_of_faults g.N.World.design g.N.World.plan w.through c.begin_each.new.faults.items) c.args.steps.now c.begin_each.new.steps) c.window-trace.ensures c.in_ok-begin_each.ensures.ticks
+returns-then-begins-eq0-clause-ticks g c tally =
+    subst (λ (w : WindowKept). RisesWithin (steps_of_faults tally w.before c.args.faults.now.items)
+    (steps_of_faults tally w.through c.begin_each.new.faults.items) c.args.steps.now c.begin_each.new.steps) c.window-trace.ensures (c.in_ok-begin_each.ensures.ticks tally)
 
 pub go_through_window-requires-clause-some : goal.go_through_window-requires-clause-some
 go_through_window-requires-clause-some g c κs within =

@@ -11,8 +11,8 @@ use Rattle.shard_windows.proofs.advance.begin_each.Goals as goal
 pub faults-init : goal.faults-init
 faults-init g c = record {
   changed = changed-none (ComesThrough g.N.World.design g.N.World.plan c.args.window.now.through (passed_behind c.args.strobes.now)) c.args.faults.now.items;
-  ticks =
-      (let none = mixed-none (steps_of_fault g.N.World.design g.N.World.plan c.args.window.now.before) (steps_of_fault g.N.World.design g.N.World.plan c.args.window.now.through) c.args.faults.now.items in
+  ticks = λ tally.
+      (let none = mixed-none (steps_of_fault tally c.args.window.now.before) (steps_of_fault tally c.args.window.now.through) c.args.faults.now.items in
       omega (arith, none));
 }
 
@@ -31,15 +31,16 @@ begin_one-requires-clause-fault g c κs within =
 pub faults-preserved : goal.faults-preserved
 faults-preserved g c =
     let R = ComesThrough g.N.World.design g.N.World.plan c.args.window.now.through (passed_behind c.args.strobes.now) in
-    let f = steps_of_fault g.N.World.design g.N.World.plan c.args.window.now.before in
-    let h = steps_of_fault g.N.World.design g.N.World.plan c.args.window.now.through in
     let same = changed-length R c.faults.place c.args.faults.now.items c.faults.faults.items c.faults.invariant.changed in
-    let more = mixed-more f h c.faults.place c.faults.faults.items c.index_mut-own.result.now c.begin_one.new.own (omega (arith, c.faults-test.true, c.len-place-end.ensures, same))
-    c.index_mut-own.ensures.value in
     record {
       changed = changed-more R c.faults.place c.args.faults.now.items c.faults.faults.items c.index_mut-own.result.now c.begin_one.new.own c.faults.invariant.changed
           (omega (arith, c.faults-test.true, c.len-place-end.ensures)) c.index_mut-own.ensures.value c.in_ok-begin_one.ensures.fault;
-      ticks = omega (arith, more, c.faults.invariant.ticks, c.in_ok-begin_one.ensures.ticks);
+      ticks = λ tally.
+          (let more = mixed-more (steps_of_fault tally c.args.window.now.before) (steps_of_fault tally c.args.window.now.through) c.faults.place c.faults.faults.items c.index_mut-own.result.now
+          c.begin_one.new.own (omega (arith, c.faults-test.true, c.len-place-end.ensures, same)) c.index_mut-own.ensures.value in
+          let so_far = c.faults.invariant.ticks tally in
+          let one = c.in_ok-begin_one.ensures.ticks tally in
+          omega (arith, more, so_far, one));
     }
 
 pub returns-clause-faults : goal.returns-clause-faults
@@ -48,9 +49,10 @@ returns-clause-faults g c =
     changed-all R c.faults.place c.args.faults.now.items c.faults.faults.items c.faults.invariant.changed (omega (arith, c.faults-test.false, c.len-place-end.ensures))
 
 pub returns-clause-ticks : goal.returns-clause-ticks
-returns-clause-ticks g c =
+returns-clause-ticks g c tally =
     let R = ComesThrough g.N.World.design g.N.World.plan c.args.window.now.through (passed_behind c.args.strobes.now) in
     let same = changed-length R c.faults.place c.args.faults.now.items c.faults.faults.items c.faults.invariant.changed in
-    let all = mixed-all (steps_of_fault g.N.World.design g.N.World.plan c.args.window.now.before) (steps_of_fault g.N.World.design g.N.World.plan c.args.window.now.through) c.faults.place
+    let all = mixed-all (steps_of_fault tally c.args.window.now.before) (steps_of_fault tally c.args.window.now.through) c.faults.place
     c.faults.faults.items (omega (arith, c.faults-test.false, c.len-place-end.ensures, same)) in
-    omega (arith, all, c.faults.invariant.ticks)
+    let so_far = c.faults.invariant.ticks tally in
+    omega (arith, all, so_far)

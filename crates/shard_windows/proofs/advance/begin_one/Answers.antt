@@ -1,15 +1,15 @@
 -- A fault whose grading ended stays as it is; any other is run from the start on.
-use Rattle.std.proofs.Common.{◌≡◌, ℕ, ◌<◌, false, sym, subst, ◌∙◌, arith}
+use Rattle.std.proofs.Common.{◌≡◌, ℕ, ◌<◌, false, [], ◌∷◌, sym, subst, ◌∙◌, arith}
 use Rattle.std.specs.Prelude.{None, is_some}
 use Rattle.v_design.specs.Plain.{fault_of}
-use Rattle.shard_slots.specs.graded_steps.Behind.{RisesWithin}
+use Rattle.copy_laws.specs.Windows.{RiseAtMostOwn}
+use Rattle.fault_strobes.specs.Said.{plan_by}
 use Rattle.shard_slots.specs.window_strobes.Strobes.{passed_behind}
 use Rattle.shard_slots.specs.copy_window.Passing.{CanBegin}
-use Rattle.shard_slots.specs.copy_window.ShardFaults.{IsShardFault, steps_taken}
-use Rattle.shard_slots.proofs.window_faults.Steps.{steps-ended}
+use Rattle.shard_slots.specs.copy_window.ShardFaults.{IsShardFault, kept_by}
 use Rattle.shard_slots.proofs.window_faults.Within.{is-listed, none-end}
 use Rattle.shard_windows.proofs.Through.{can-begin, ended-comes, keeps-rules}
-use Rattle.shard_windows.proofs.Ticks.{begins-rise, same-rises}
+use Rattle.shard_slots.proofs.Numbers.{counter-rises, steps-rise}
 use Rattle.shard_windows.proofs.advance.begin_one.Goals as goal
 
 pub returns-then-is_some-clause-fault : goal.returns-then-is_some-clause-fault
@@ -19,9 +19,11 @@ returns-then-is_some-clause-fault g c =
     c.args.window.now.through c.args.strobes.now.passed _ (omega (arith, some)) c.args.own.now (sym c.is_some.ensures ∙ c.if-is_some.true) c.requires.fault
 
 pub returns-then-is_some-clause-ticks : goal.returns-then-is_some-clause-ticks
-returns-then-is_some-clause-ticks g c =
-    same-rises _ _ c.args.steps.now
-    (steps-ended g.N.World.design g.N.World.plan c.args.window.now.before c.args.window.now.through c.args.own.now (sym c.is_some.ensures ∙ c.if-is_some.true))
+returns-then-is_some-clause-ticks g c tally =
+    let some : c.args.window.now.before < c.args.window.now.through = c.begins-first.ensures.window.some in
+    let rise = steps-rise c.own_steps_rise.ensures g.N.World.design g.N.World.plan (keeps-rules g.N.World.design c.design-design.result.now c.design-design.ensures.world) tally c.args.window.now.before
+    c.args.window.now.through (omega (arith, some)) c.args.window.now.before c.args.strobes.now.passed c.args.own.now c.requires.fault in
+    omega (arith, rise)
 
 pub listed_fault-fault-requires-after_bounds : goal.listed_fault-fault-requires-after_bounds
 listed_fault-fault-requires-after_bounds g c κs within =
@@ -46,16 +48,13 @@ returns-clause-fault g c =
     }
 
 pub returns-clause-ticks : goal.returns-clause-ticks
-returns-clause-ticks g c =
+returns-clause-ticks g c tally =
     let design = g.N.World.design in
     let plan = g.N.World.plan in
     let window = c.args.window.now in
-    let own = c.begin_fault.new.own in
+    let own = c.args.own.now in
     let fault = fault_of c.listed_fault-fault.result in
     let some : window.before < window.through = c.begins-first.ensures.window.some in
-    begins-rise c.gradings_take_steps.ensures design plan (keeps-rules design c.design-design.result.now c.design-design.ensures.world) window.before window.through c.args.strobes.now.passed
-    (passed_behind c.args.strobes.now) c.args.own.now own fault c.args.steps.now c.begin_fault.new.steps (omega (arith, some)) c.listed_fault-fault.ensures
-    (none-end c.args.own.now.end (sym c.is_some.ensures ∙ c.if-is_some.false)) c.in_ok-begin_fault.ensures.place c.requires.fault
-    (subst (λ (n : ℕ). IsShardFault design plan n (passed_behind c.args.strobes.now) own) c.slots-end.ensures c.in_ok-begin_fault.ensures.fault)
-    (subst (λ (n : ℕ). RisesWithin (steps_taken design plan window.before fault None) (steps_taken design plan n fault own.end) c.args.steps.now c.begin_fault.new.steps) c.slots-end.ensures
-    c.in_ok-begin_fault.ensures.ticks)
+    counter-rises c.own_steps_rise.ensures design plan (keeps-rules g.N.World.design c.design-design.result.now c.design-design.ensures.world) tally window.before window.through (omega (arith, some)) own c.begin_fault.new.own fault c.args.steps.now c.begin_fault.new.steps
+    c.listed_fault-fault.ensures c.in_ok-begin_fault.ensures.place
+    (subst (λ (n : ℕ). RiseAtMostOwn design (plan_by (kept_by own) plan) window.before n (fault ∷ []) c.args.steps.now c.begin_fault.new.steps) c.slots-end.ensures c.in_ok-begin_fault.ensures.ticks)

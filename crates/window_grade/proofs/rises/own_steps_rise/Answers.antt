@@ -1,5 +1,5 @@
--- The laws are proved in `Rises`.
-use Rattle.window_grade.proofs.Rises.{own_steps_rise}
+-- The laws are proved in `OwnRises`.
+use Rattle.window_grade.proofs.OwnRises.{own_steps_rise}
 use Rattle.window_grade.proofs.rises.own_steps_rise.Goals as goal
 
 pub returns : goal.returns

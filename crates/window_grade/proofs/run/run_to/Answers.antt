@@ -26,6 +26,7 @@ run_slot-requires g c =
     let of = c.requires in
     let ticked = c.slots.invariant.way of in
     let until : c.args.until ≤ _ = of.early in
+    let within : c.args.until ≤ of.plan.end = of.within in
     record {
       may = record {
         design = of.design;
@@ -34,6 +35,7 @@ run_slot-requires g c =
         now = ticked.way.now;
         kept = of.kept;
         at = ticked.way.at;
+        early = omega (arith, within, c.if-until-time.false);
         known = known-part of.design (plan_by of.kept of.plan) of.fault ticked.way.now ticked.way.now c.args.until c.in-Some.time c.args.beside.now (λ time a. a) c.if-until-time.false ticked.known;
       };
       next = sym c.slots.invariant.next_is ∙ c.in-Some.is;

@@ -23,7 +23,7 @@ returns-clause-complete g c over =
     (all-stand g.N.World.design g.N.World.plan c.self.inside.gone c.self.inside.reached.passed c.self.inside.faults.items c.self.invariant.judged c.self.invariant.each))
 
 pub returns-clause-steps : goal.returns-clause-steps
-returns-clause-steps g c rules =
-    all-within c.gradings_take_steps.ensures g.N.World.design g.N.World.plan c.args.self.now.gone rules c.args.self.now.faults
+returns-clause-steps g c tally =
+    all-within c.own_steps_rise.ensures g.N.World.design g.N.World.plan tally c.args.self.now.gone c.args.self.now.faults
     (subst (StandsBeside g.N.World.design g.N.World.plan) c.self.view_is
     (all-stand g.N.World.design g.N.World.plan c.self.inside.gone c.self.inside.reached.passed c.self.inside.faults.items c.self.invariant.judged c.self.invariant.each))

@@ -65,8 +65,9 @@ returns-clause-step c = λ machine state of known.
     let row : Row = r.0 in
     known-step design t.time t.rows.items t.index t.ready t.lanes t.queue c.requires.kept (bodies-waitable design (rules_hold design t.design.now.rules)) p c.args.line c.args.act c.args.next.now
     row r.1 (code-at t c.requires.kept p row there r.1) c.put_state.new.rows.items c.in_ok-put_state.ensures machine state of known c.standing_of-standing.result.stage
-    c.standing_of-standing.result.ready c.standing_of-standing.result.waits c.hold_one.new.queue _
-    c.standing_of-standing.ensures (low t c.requires.kept p c.requires.ready) c.in_ok-hold_one.ensures refl c.act_known.ensures.read c.act_known.ensures.write c.later_known-later.ensures refl refl
+    c.standing_of-standing.result.ready c.standing_of-standing.result.waits _ c.hold_one.new.queue _
+    c.standing_of-standing.ensures (low t c.requires.kept p c.requires.ready) c.later_known-later.ensures c.in_ok-hold_one.ensures refl c.act_known.ensures.read c.act_known.ensures.write
+    c.later_known.ensures refl refl
 
 pub returns-clause-kept : goal.returns-clause-kept
 returns-clause-kept c =

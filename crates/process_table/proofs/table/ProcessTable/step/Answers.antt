@@ -1,4 +1,4 @@
-use Rattle.std.proofs.Common.{◌≡◌, ◌<◌, ◌∙◌, ℕ, List, true, length, map, ap, sym, subst, arith, refl}
+use Rattle.std.proofs.Common.{◌≡◌, ◌<◌, ◌∙◌, ℕ, List, length, map, ap, sym, subst, arith, refl}
 use Rattle.std.specs.Prelude.{Option, IfSome}
 use Rattle.std.proofs.lemmas.List.{length-map}
 use Rattle.vf_base.specs.Base.{process_number}
@@ -6,15 +6,11 @@ use Rattle.v_design.specs.Designs.{FlatProcess}
 use Rattle.v_design.specs.PlainDesigns.{design_of}
 use Rattle.v_design.specs.Reads.{named_by}
 use Rattle.v_design.specs.RulesHold.{rules_hold}
-use Rattle.v_design.specs.States.{ProcessState, is_ready}
 use Rattle.process_operands.specs.BoundsLaws.{AreBelow}
 use Rattle.process_code.specs.Points.{StepSaid, SaysRead, SaysWrite, SaysLater, SaysAwait, SaysSleep, SaysZero, SaysFinished, SaysInner, ReadsBelow, said_by}
 use Rattle.process_table.specs.declared.row.Row.{Row}
-use Rattle.process_table.specs.declared.table.ProcessTable.{ProcessTable}
 use Rattle.process_table.specs.Rows.{row_states, row_text, row_state, state_at, text_at}
-use Rattle.process_table.specs.Arranged.{IsKept, table_of}
 use Rattle.process_table.specs.Deeds.{read_said}
-use Rattle.process_table.specs.Tables.{process_in}
 use Rattle.process_table.proofs.Bodies.{bodies-waitable, bodies-below}
 use Rattle.process_table.proofs.Changed.{rows-length, holding-at}
 use Rattle.process_table.proofs.TableCalls.{count-ready, count-queue, ready-free}

@@ -12,10 +12,10 @@ use Rattle.window_runs.proofs.Slots.{has-runs, none-past, number-fits, phase-tel
 use Rattle.window_runs.proofs.slot.SlotRuns.run.Goals as goal
 
 pub run-requires : goal.run-requires
-run-requires c = has-runs (process_number c.args.process) c.args.phase c.args.self.now c.requires c.if-phase-phases.false
+run-requires c = has-runs (process_number c.args.process) c.args.phase c.args.self.now c.requires c.if-phase-self.false
 
 pub returns : goal.returns
 returns c = λ design time phases tells.
-    let found = phase-tells design time phases c.args.self.now tells c.args.phase c.if-phase-phases.false in
+    let found = phase-tells design time phases c.args.self.now tells c.args.phase c.if-phase-self.false in
     subst (λ (o : Option Phase). TellsGoodRun design time (process_number c.args.process) (run_in (good_machine design) o (process_number c.args.process) c.args.number) (option_map (λ run. run.now) c.run.result))
     (sym found.1) (c.run.ensures design time (λ process. process_runs (good_machine design) process found.0) found.2)

@@ -24,24 +24,24 @@ use v_design::Due;
 use vf_base::{NoMemory, ProcId};
 
 /// What a known step does to an object, if it touches one.
-fn act_known(act: StepAct) -> Option<Act>
-    ensures read { read_by result ≡ read_told (act_by act) }
-    ensures write { written_by result ≡ written_told (act_by act) }
+fn act_known(act: &StepAct) -> Option<Act>
+    ensures read { read_by result ≡ read_told (act_by act.now) }
+    ensures write { written_by result ≡ written_told (act_by act.now) }
 {
     match act {
-        StepAct::Read(object) => Some(Act::Read(object)),
-        StepAct::Write(update) => Some(Act::Write(update)),
+        StepAct::Read(object) => Some(Act::Read(*object)),
+        StepAct::Write(update) => Some(Act::Write(*update)),
         StepAct::Append(_) => None,
         StepAct::Inner => None,
     }
 }
 
 /// The update that a known step appends, if it does.
-fn later_known(act: StepAct) -> Option<Due>
-    ensures { option_to_list (option_map due_of result) ≡ later_told (act_by act) }
+fn later_known(act: &StepAct) -> Option<Due>
+    ensures { option_to_list (option_map due_of result) ≡ later_told (act_by act.now) }
 {
     match act {
-        StepAct::Append(due) => Some(due),
+        StepAct::Append(due) => Some(*due),
         StepAct::Read(_) => None,
         StepAct::Write(_) => None,
         StepAct::Inner => None,
@@ -71,15 +71,15 @@ impl<'d> ProcessTable<'d> {
         ensures reads { IfOk result (λ stepped. IfSome (read_by stepped.act) (λ object. object < length (table_of self.old).design.objects)) }
         ensures kept { IfOk result (λ _. IsKept self.new) }
     {
-        let later = later_known(act);
+        let later = later_known(&act);
         put_state(&mut self.rows, process, next)?;
         let standing = standing_of(&self.rows, process);
         hold_one(&mut self.queue, process, standing.stage, later)?;
         mark(&mut self.ready, process, standing.ready);
         Ok(Stepped {
             line,
-            act: act_known(act),
-            later,
+            act: act_known(&act),
+            later: later_known(&act),
             waits: standing.waits,
             ready: standing.ready,
         })

@@ -1,0 +1,4 @@
+mod Finding
+mod Times
+mod Taken
+mod Known
