@@ -122,7 +122,7 @@ impl<'d> Runner<'d> {
     }
 
     /// The least ready process takes a step that is known, where no node has work and no lane has an update: it does what the step does, and stands then at a state, which may be one of any code of
-    /// the process. Its code isn't run. Each process is still to write objects of the design alone, and so it is behind the step (`race_laws::writes_stay`).
+    /// the process. Its code isn't run. It answers the line of the step's statement. Each process is still to write objects of the design alone, and so it is behind the step (`race_laws::writes_stay`).
     ///
     /// # Errors
     ///
@@ -134,7 +134,7 @@ impl<'d> Runner<'d> {
         line: u32,
         act: StepAct,
         next: &ProcState,
-    ) -> Result<(), NoMemory>
+    ) -> Result<u32, NoMemory>
         requires whole { IsWhole self.old }
         requires nodes { NoNodeWorks (state_of self.old) }
         requires lanes { first_lane (state_of self.old) ≡ None }
@@ -149,7 +149,7 @@ impl<'d> Runner<'d> {
         machine_laws::phases_go_on();
         copy_laws::moves();
         race_laws::writes_stay();
-        follow_alone(
+        let followed = follow_alone(
             &mut self.nets,
             &mut self.table,
             &mut self.told,
@@ -162,7 +162,7 @@ impl<'d> Runner<'d> {
         let first = note_step(&mut self.running, process, ready)?;
         told.count_step(process, first)?;
         told.add_step(&self.told)?;
-        Ok(())
+        Ok(followed.line)
     }
 
     /// The least lane's first update is written, where no node has work. It is the first event of the block. It answers the line of its statement. Each process is still to

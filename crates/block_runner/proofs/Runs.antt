@@ -2,7 +2,6 @@
 use Rattle.std.proofs.Common.{◌≡◌, ◌≢◌, ◌⊎◌, inl, inr, ℕ, zero, suc, ◌+◌, ◌-◌, ◌<◌, ◌≤◌, List, [], ◌∷◌, ◌++◌, length, map, take, Bool, true}
 use Rattle.std.proofs.Common.{false, ◌||◌, cond, refl, sym, ap, subst, ◌∙◌, arith, nat_eq, append-nil}
 use Rattle.std.specs.Prelude.{Option, Some, None, nat_lt, sum_by}
-use Rattle.std.specs.Option.{IsSome}
 use Rattle.std.proofs.lemmas.Bool.{ltb-true, ltb-false, eqb-true, eqb-false, eq-eqb}
 use Rattle.vf_base.specs.Base.{process_number}
 use Rattle.vf_base.specs.Lists.{AllHold, has}
@@ -26,13 +25,14 @@ use Rattle.block_events.specs.Runners.{machine_of, state_of, IsWhole}
 use Rattle.block_told.specs.Running.{running_of, is_innermost, runs_after}
 use Rattle.block_told.specs.Tells.{TellsBlock, IsUntold}
 use Rattle.block_told.specs.Blocks.{in_run, in_run_after, in_run_from, IsBetweenRuns, AreBlock}
-use Rattle.block_runner.specs.Ends.{EndsSo, GoesOn}
+use Rattle.block_runner.specs.Ends.{EndsSo, GoesOn, LaneRan}
 use Rattle.block_events.specs.Going.{TakesEvents, WorksOn, Settles, StepsOn, LaneStepsOn}
 use Rattle.block_told.specs.Stays.{ready-stays}
 use Rattle.block_told.specs.Places.{first-least, first-there, first-none, none-passes}
 use Rattle.block_told.specs.Prefixes.{first-append, all-append, take-left, take-right, length-append, in-run-append, in-run-more}
 use Rattle.block_told.specs.RunsAfter.{running-empty, own-after, others-after, after-ascends, after-hold, held-at, each-held}
 use Rattle.block_told.specs.TellsMore.{tells-nothing}
+use Rattle.block_runner.proofs.Growing.{nodes-none}
 
 -- some events of a block that a process begins are taken and told
 pub record IsGoing (machine : Machine) (begins : State) (first : ℕ) (events : List Event) (runner : Runner) (told : BlockTold) : Type 0 where
@@ -252,7 +252,7 @@ step-going machine begins first events process old new told_old told_new least g
 
 -- Work on nodes
 
-nodes-quiet : (machine : Machine) (state : State) (events : List Event) → AllHold (λ event. is_process_event event ≡ false) events → (process : ℕ) (before : Bool) →
+pub nodes-quiet : (machine : Machine) (state : State) (events : List Event) → AllHold (λ event. is_process_event event ≡ false) events → (process : ℕ) (before : Bool) →
     in_run_from machine state events process before ≡ before
 nodes-quiet machine state [] of process before = refl
 nodes-quiet machine state (Step number ∷ events) of process before = let z : true ≡ false = of.0 in cc
@@ -386,26 +386,22 @@ pub record RunsSoFar (machine : Machine) (begins : State) (now : Runner) (told :
   pub next : GoesOnNext machine begins first events
   pub counted : told.steps ≡ taken
 
-pub runs-begin : (machine : Machine) (begins : State) (runner : Runner) (told : BlockTold) → IsWhole runner → machine_of runner ≡ machine → state_of runner ≡ begins → NoNodeWorks begins →
-    first_lane begins ≡ None → IsSome (first_ready begins) → runner.running.items ≡ [] → IsUntold told → RunsSoFar machine begins runner told 0
-runs-begin machine begins runner told whole one same quiet lanes some none untold = go (first_ready begins) refl some
-  where
-    go : (found : Option ℕ) → first_ready begins ≡ found → IsSome found → RunsSoFar machine begins runner told 0
-    go None e there = (let z : false ≡ true = there in cc)
-    go (Some first) e there = record {
-      first = first;
-      least = e;
-      events = [];
-      going = begin-going machine begins runner first told whole one same lanes none untold;
-      next = record {
-        quiet = quiet;
-        process = first;
-        low = omega arith;
-        ready = placed (λ (p : ProcessState). is_ready p.activity) idle_process begins.processes first e;
-        busy = λ few between. absurd (omega (arith, few));
-      };
-      counted = untold.steps;
-    }
+abbrev pub runs-begin : (machine : Machine) (begins : State) (runner : Runner) (told : BlockTold) (first : ℕ) → IsWhole runner → machine_of runner ≡ machine → state_of runner ≡ begins →
+    NoNodeWorks begins → first_lane begins ≡ None → first_ready begins ≡ Some first → runner.running.items ≡ [] → IsUntold told → RunsSoFar machine begins runner told 0
+runs-begin machine begins runner told first whole one same quiet lanes least none untold = record {
+  first = first;
+  least = least;
+  events = [];
+  going = begin-going machine begins runner first told whole one same lanes none untold;
+  next = record {
+    quiet = quiet;
+    process = first;
+    low = omega arith;
+    ready = placed (λ (p : ProcessState). is_ready p.activity) idle_process begins.processes first least;
+    busy = λ few between. absurd (omega (arith, few));
+  };
+  counted = untold.steps;
+}
 
 -- the next step is possible
 module _ (machine : Machine) (begins : State) (now : Runner) (told : BlockTold) (taken : ℕ) (so_far : RunsSoFar machine begins now told taken) where
@@ -415,7 +411,7 @@ module _ (machine : Machine) (begins : State) (now : Runner) (told : BlockTold) 
       (ap first_ready (sym so_far.going.state_is) ∙ none)
 
   -- so many steps were more than it may take
-  pub runs-over : (most : ℕ) → most + 1 ≤ taken → GoesOn machine begins most GivenUp now told
+  abbrev pub runs-over : (most : ℕ) → most + 1 ≤ taken → GoesOn machine begins most GivenUp now told
   runs-over most past =
       let count : told.steps ≡ sum_by steps_of so_far.events = so_far.going.tells.count in
       let all : told.steps ≡ taken = so_far.counted in
@@ -443,7 +439,7 @@ module _ (machine : Machine) (begins : State) (now : Runner) (told : BlockTold) 
       (steps : StepsOn process now stepped told told_stepped) (quiet : Bool) (settles : Settles quiet stepped settled told_stepped told_settled)
     where
       -- the events with these
-      abbrev all_events : List Event
+      abbrev pub all_events : List Event
       all_events = (so_far.events ++ Step process ∷ []) ++ settles.events
 
       some : (us : List Event) → (us ++ Step process ∷ [] ≡ []) → ⊥
@@ -463,7 +459,7 @@ module _ (machine : Machine) (begins : State) (now : Runner) (told : BlockTold) 
       not-none : (all_events ≡ []) → ⊥
       not-none = some-more (so_far.events ++ Step process ∷ []) settles.events (some so_far.events)
 
-      goes : (most : ℕ) (end : BlockEnd) → EndsSo machine begins most all_events end → GoesOn machine begins most end settled told_settled
+      abbrev goes : (most : ℕ) (end : BlockEnd) → EndsSo machine begins most all_events end → GoesOn machine begins most end settled told_settled
       goes most end ends = record {
         events = all_events;
         in_order = settled-going.in_order;
@@ -479,16 +475,16 @@ module _ (machine : Machine) (begins : State) (now : Runner) (told : BlockTold) 
       one-more = settles.works.steps ∙ steps.count ∙ ap (λ n. n + 1) so_far.counted
 
       -- it is given up
-      pub runs-given_up : (most : ℕ) → quiet ≡ false → GoesOn machine begins most GivenUp settled told_settled
+      abbrev pub runs-given_up : (most : ℕ) → quiet ≡ false → GoesOn machine begins most GivenUp settled told_settled
       runs-given_up most fails = goes most GivenUp (inr (omega (arith, settles.many fails, length-append (so_far.events ++ Step process ∷ []) settles.events)))
 
       -- or at its end
-      pub runs-ran : (most : ℕ) → quiet ≡ true → settled.running.items ≡ [] → GoesOn machine begins most Ran settled told_settled
+      abbrev pub runs-ran : (most : ℕ) → quiet ≡ true → settled.running.items ≡ [] → GoesOn machine begins most Ran settled told_settled
       runs-ran most holds none =
           goes most Ran (going-ends machine begins so_far.first all_events settled told_settled settled-going not-none (settles.rests holds) none)
 
       -- or goes on
-      pub runs-more : quiet ≡ true → (settled.running.items ≡ [] → ⊥) → RunsSoFar machine begins settled told_settled (taken + 1)
+      abbrev pub runs-more : quiet ≡ true → (settled.running.items ≡ [] → ⊥) → RunsSoFar machine begins settled told_settled (taken + 1)
       runs-more holds running = record {
         first = so_far.first;
         least = so_far.least;
@@ -523,7 +519,7 @@ module _ (old stepped settled : Runner) (process : ℕ) (told_stepped told_settl
         (settles.works.tells begins (LaneStep process ∷ []) ((λ i. after (steps.takes.machine_is i) begins (LaneStep process)) ∙ sym steps.takes.state_is)
         (subst (λ m. TellsBlock m begins (LaneStep process ∷ []) told_stepped) (sym steps.takes.machine_is) steps.tells))
 
-    goes_so : (most : ℕ) (end : BlockEnd) → EndsSo machine begins most lane_events end → GoesOn machine begins most end settled told_settled
+    abbrev goes_so : (most : ℕ) (end : BlockEnd) → EndsSo machine begins most lane_events end → GoesOn machine begins most end settled told_settled
     goes_so most end ends = record {
       events = LaneStep process ∷ settles.events;
       in_order = (steps.takes.in_order.0, at.0);
@@ -538,11 +534,17 @@ module _ (old stepped settled : Runner) (process : ℕ) (told_stepped told_settl
     pub lane-one : told_settled.steps ≡ 1
     lane-one = settles.works.steps ∙ steps.tells.count
 
-    pub lane-given_up : (most : ℕ) → quiet ≡ false → GoesOn machine begins most GivenUp settled told_settled
+    abbrev pub lane-given_up : (most : ℕ) → quiet ≡ false → GoesOn machine begins most GivenUp settled told_settled
     lane-given_up most fails = goes_so most GivenUp (inr (omega (arith, settles.many fails)))
 
     -- no moment before the work on nodes ends is one between runs
-    pub lane-ran : (most : ℕ) → quiet ≡ true → GoesOn machine begins most Ran settled told_settled
+    sooner-lane : (count : ℕ) → 0 < count → count < length (LaneStep process ∷ settles.events) → IsBetweenRuns machine begins (take count (LaneStep process ∷ settles.events)) → ⊥
+    sooner-lane zero some few between = absurd (omega (arith, some))
+    sooner-lane (suc count) some few between =
+        settles.works.busy count (omega (arith, few))
+        (subst NoNodeWorks (sym (λ i. happened (steps.takes.machine_is i) (steps.takes.state_is i) (take count settles.events))) between.nodes)
+
+    abbrev pub lane-ran : (most : ℕ) → quiet ≡ true → GoesOn machine begins most Ran settled told_settled
     lane-ran most holds = goes_so most Ran (record {
       first = LaneStep process;
       rest = settles.events;
@@ -558,9 +560,16 @@ module _ (old stepped settled : Runner) (process : ℕ) (told_stepped told_settl
         no_sooner = sooner-lane;
       };
     })
-      where
-        sooner-lane : (count : ℕ) → 0 < count → count < length (LaneStep process ∷ settles.events) → IsBetweenRuns machine begins (take count (LaneStep process ∷ settles.events)) → ⊥
-        sooner-lane zero some few between = absurd (omega (arith, some))
-        sooner-lane (suc count) some few between =
-            settles.works.busy count (omega (arith, few))
-            (subst NoNodeWorks (sym (λ i. happened (steps.takes.machine_is i) (steps.takes.state_is i) (take count settles.events))) between.nodes)
+
+    -- no process takes a step
+    pub lane-given_up-so : (most : ℕ) → quiet ≡ false → LaneRan machine begins process most GivenUp settled told_settled
+    lane-given_up-so most fails = record {
+      goes = lane-given_up most fails;
+      no_steps = λ other. nodes-none machine other (after machine begins (LaneStep process)) settles.events settles.works.of_nodes;
+    }
+
+    pub lane-ran-so : (most : ℕ) → quiet ≡ true → LaneRan machine begins process most Ran settled told_settled
+    lane-ran-so most holds = record {
+      goes = lane-ran most holds;
+      no_steps = λ other. nodes-none machine other (after machine begins (LaneStep process)) settles.events settles.works.of_nodes;
+    }

@@ -5,13 +5,13 @@ use Rattle.vf_base.specs.Lists.{AllHold, has}
 use Rattle.vf_base.specs.declared.ids.ProcId.{ProcId}
 use Rattle.v_design.specs.Designs.{Machine}
 use Rattle.v_design.specs.OwnSteps.{ProcessRun, runs_of, steps_in}
-use Rattle.v_design.specs.States.{State, Event, process_at, source_at}
+use Rattle.v_design.specs.States.{State, Event, source_at}
 use Rattle.copy_laws.specs.OwnRuns.{is_going, last_goes_on}
 use Rattle.copy_laws.specs.SharedRuns.{IsRunFrom}
 use Rattle.copy_overlay.specs.Statuses.{AllCount}
 use Rattle.run_numbers.specs.Numbers.{AreNumbers, times_of}
 use Rattle.window_runs.specs.OfPhase.{TellsRuns}
-use Rattle.known_steps.specs.Beside.{FollowsSoFar, IsInRun}
+use Rattle.known_steps.specs.Beside.{FollowsSoFar}
 use Rattle.block_runner.specs.declared.goods.GoodPhase.{GoodPhase}
 use Rattle.block_runner.specs.declared.rows.ProcessBeside.{ProcessBeside}
 use Rattle.block_runner.specs.declared.rows.RunBeside.{RunBeside}
@@ -65,12 +65,17 @@ abbrev pub TellsRow : List ProcessRun → ℕ → List ProcessRun → ℕ → Op
 TellsRow goods number runs ended None = (last_goes_on runs ≡ false) × (length runs ≡ ended)
 TellsRow goods number runs ended (Some going) = InMidst (slice_get goods (number + ended)) runs ended going
 
--- some events of a block, of which so many steps were taken: what is kept of each process, and which processes' runs ended
+-- so does what is kept of each process, behind some events of the block
 pub record IsBeside (machine : Machine) (begins : State) (runs : ℕ → List ProcessRun) (numbers : ℕ → ℕ) (events : List Event) (rows : List ProcessBeside) : Type 0 where
-  pub each : (process : ℕ) → process < length machine.design.processes →
-      TellsRow (runs process) (numbers process) (runs_of (steps_in machine process begins events)) (row_at rows process).ended (row_at rows process).going
+  pub each : (process : ℕ) → TellsRow (runs process) (numbers process) (runs_of (steps_in machine process begins events)) (row_at rows process).ended (row_at rows process).going
 
--- the ends are listed, and there are no more of them, and no more steps of a run, than steps were taken
+-- how many steps of the run with the next step were taken
+abbrev pub taken_of : Option RunBeside → ℕ
+taken_of None = 0
+taken_of (Some going) = going.taken
+
+-- the ends of runs are listed, and neither more runs ended nor has a run more steps than steps were taken
 pub record AreListed (rows : List ProcessBeside) (ended : List ProcId) (taken : ℕ) : Type 0 where
   pub times : (process : ℕ) → (row_at rows process).ended ≡ times_of process (map process_number ended)
   pub few : (process : ℕ) → (row_at rows process).ended ≤ taken
+  pub short : (process : ℕ) → taken_of (row_at rows process).going ≤ taken

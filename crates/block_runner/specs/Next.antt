@@ -20,19 +20,12 @@ use Rattle.good_runs.specs.declared.tried.TriedStep.{TriedStep}
 use Rattle.known_steps.specs.Beside.{FollowsSoFar, IsInRun, TellsRunHere, run_behind}
 use Rattle.known_steps.specs.declared.known.KnownStep.{KnownStep}
 use Rattle.run_numbers.specs.Numbers.{AreNumbers}
-use Rattle.block_events.specs.declared.runner.Runner.{Runner}
-use Rattle.block_events.specs.Runners.{machine_of, state_of}
-use Rattle.block_runner.specs.Beside.{TellsBeside, row_at}
+use Rattle.block_runner.specs.Beside.{TellsBeside, row_at, taken_of}
 use Rattle.block_runner.specs.declared.goods.GoodPhase.{GoodPhase}
 use Rattle.block_runner.specs.declared.rows.ProcessBeside.{ProcessBeside}
 use Rattle.block_runner.specs.declared.rows.RunBeside.{RunBeside}
 
 -- Where a process stands
-
--- how many steps of the run with the next step were taken
-abbrev pub taken_of : Option RunBeside → ℕ
-taken_of None = 0
-taken_of (Some going) = going.taken
 
 -- a run as far as it went is kept so: it has no step yet, or it goes as the good machine's, or all its steps count as own
 abbrev pub GoesSo : Option ProcessRun → Option RunBeside → ProcessRun → Type 0
@@ -143,16 +136,16 @@ pub record MayStepBeside (machine : Machine) (state : State) (process : ℕ) (ke
   pub few : numbers process + row.ended < 2 ^ 32
   pub is : IsAtRun machine state process (slice_get (runs process) (numbers process + row.ended)) row.going run
 
--- it takes a step: as the good machine's, or itself; and what is kept of it and of the ends of runs is told
-pub record StepsBeside (old new : Runner) (process : ProcId) (kept : GoodPhase) (rows_old rows_new : List ProcessBeside) (ended_old ended_new : List ProcId) (tried_old tried_new : List TriedStep)
-    (ticks_old ticks_new : ℕ) : Type 0 where
+-- it takes a step, from a state of the machine to another: as the good machine's, or itself; and what is kept of it and of the ends of runs is told
+pub record StepsBeside (machine : Machine) (state behind : State) (process : ProcId) (kept : GoodPhase) (rows_old rows_new : List ProcessBeside) (ended_old ended_new : List ProcId)
+    (tried_old tried_new : List TriedStep) (ticks_old ticks_new : ℕ) : Type 0 where
   pub follows : Bool
-  pub rows : rows_new ≡ set rows_old (process_number process) (row_behind (row_at rows_old (process_number process)) follows (is_ready (process_at (state_of new) (process_number process)).activity))
-  pub ended : ended_new ≡ ended_behind ended_old process (is_ready (process_at (state_of new) (process_number process)).activity)
-  pub tries : (numbers : ℕ → ℕ) → AreNumbers numbers kept.numbers → TriesSo (machine_of old) (state_of old) (process_number process) kept.phase
-      (numbers (process_number process) + (row_at rows_old (process_number process)).ended) (taken_of (row_at rows_old (process_number process)).going) tried_old tried_new ticks_old ticks_new follows
-  pub took : (runs : ℕ → List ProcessRun) (numbers : ℕ → ℕ) (run : ProcessRun) → TellsBeside (machine_of old) (state_of old) runs numbers kept →
-      IsAtRun (machine_of old) (state_of old) (process_number process)
-      (slice_get (runs (process_number process)) (numbers (process_number process) + (row_at rows_old (process_number process)).ended)) (row_at rows_old (process_number process)).going run →
-      TookBeside (machine_of old) (state_of old) (process_number process)
-      (slice_get (runs (process_number process)) (numbers (process_number process) + (row_at rows_old (process_number process)).ended)) run follows
+  pub number : ℕ
+  pub number_is : (numbers : ℕ → ℕ) → AreNumbers numbers kept.numbers → number ≡ numbers (process_number process) + (row_at rows_old (process_number process)).ended
+  pub rows : rows_new ≡ set rows_old (process_number process) (row_behind (row_at rows_old (process_number process)) follows (is_ready (process_at behind (process_number process)).activity))
+  pub ended : ended_new ≡ ended_behind ended_old process (is_ready (process_at behind (process_number process)).activity)
+  pub tries : TriesSo machine state (process_number process) kept.phase number (taken_of (row_at rows_old (process_number process)).going) tried_old tried_new ticks_old ticks_new follows
+  pub took : (runs : ℕ → List ProcessRun) (numbers : ℕ → ℕ) (run : ProcessRun) → TellsBeside machine state runs numbers kept →
+      IsAtRun machine state (process_number process) (slice_get (runs (process_number process)) (numbers (process_number process) + (row_at rows_old (process_number process)).ended))
+      (row_at rows_old (process_number process)).going run →
+      TookBeside machine state (process_number process) (slice_get (runs (process_number process)) (numbers (process_number process) + (row_at rows_old (process_number process)).ended)) run follows

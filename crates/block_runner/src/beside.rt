@@ -7,8 +7,8 @@ ghost use Rattle.race_laws.specs.Writes.{WritesAreOf};
 ghost use Rattle.machine_laws.specs.SlotLoop.{NoNodeWorks, first_lane, first_ready};
 ghost use Rattle.block_events.specs.Going.{StepsOn};
 ghost use Rattle.block_events.specs.Runners.{IsWhole, machine_of, state_of};
-ghost use Rattle.block_runner.specs.Beside.{fresh, row_at};
-ghost use Rattle.block_runner.specs.Next.{IsKnownHere, MayStepBeside, StepsBeside, TriesOne, TriesSo, ended_behind, row_behind, taken_of};
+ghost use Rattle.block_runner.specs.Beside.{fresh, row_at, taken_of};
+ghost use Rattle.block_runner.specs.Next.{IsKnownHere, MayStepBeside, StepsBeside, TriesOne, TriesSo, ended_behind, row_behind};
 
 use crate::goods::GoodPhase;
 use crate::next::next_known;
@@ -179,9 +179,9 @@ fn take_next<L: Ledger>(
 {
     match known {
         Some(step) => {
-            runner.follow_step(process, told, step.line, step.act, step.next)?;
+            let line = runner.follow_step(process, told, step.line, step.act, step.next)?;
             Ok(Took {
-                line: step.line,
+                line,
                 follows: true,
             })
         }
@@ -223,7 +223,7 @@ pub fn step_beside<L: Ledger>(
     requires taken { taken_of (row_at beside.old.processes (process_number process)).going < 2 ^ 63 }
     requires may { MayStepBeside (machine_of runner.old) (state_of runner.old) (process_number process) goods.now (row_at beside.old.processes (process_number process)) }
     ensures goes { OnOk result (StepsOn (process_number process) runner.old runner.new told.old told.new) }
-    ensures beside { OnOk result (StepsBeside runner.old runner.new process goods.now beside.old.processes beside.new.processes beside.old.ended.items beside.new.ended.items tried.old.items
+    ensures beside { OnOk result (StepsBeside (machine_of runner.old) (state_of runner.old) (state_of runner.new) process goods.now beside.old.processes beside.new.processes beside.old.ended.items beside.new.ended.items tried.old.items
         tried.new.items steps.old steps.new) }
 {
     let row = beside.processes.row(process);

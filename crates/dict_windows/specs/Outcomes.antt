@@ -25,8 +25,11 @@ abbrev pub IsOutcome : FlatDesign → TestPlan → List ℕ → Outcome → Type
 IsOutcome design plan numbers (Made gathered) = IsGathered design plan numbers gathered
 IsOutcome design plan numbers (GoodLoop time) = LoopsAt design plan time
 
--- where all was kept, a counter rose by no more than the process steps of the good first run and all own steps of the faults of these numbers, each through the end of its full grade, or to the
--- plan's end
+-- a counter rose by no more than the process steps of the good first run and all own steps of the faults of these numbers, each through the end of its full grade, or to the plan's end
+pub record RoseByOwn (design : FlatDesign) (plan : TestPlan) (numbers : List ℕ) (before after : ℕ) : Type 0 where
+  pub within : (steps : List ℕ) → AllZip (TakesOwn design plan true) numbers steps → after ≤ before + (good_steps design plan + sum steps)
+
+-- so it rose where all was kept
 abbrev pub OutcomeTicks : FlatDesign → TestPlan → List ℕ → ℕ → ℕ → Outcome → Type 0
-OutcomeTicks design plan numbers before after (Made gathered) = (steps : List ℕ) → AllZip (TakesOwn design plan true) numbers steps → after ≤ before + (good_steps design plan + sum steps)
+OutcomeTicks design plan numbers before after (Made gathered) = RoseByOwn design plan numbers before after
 OutcomeTicks design plan numbers before after (GoodLoop time) = Unit {0}

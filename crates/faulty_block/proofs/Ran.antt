@@ -18,7 +18,7 @@ use Rattle.block_compare.specs.block_events.declared.runner.Runner.{Runner}
 use Rattle.block_compare.specs.block_events.Runners.{machine_of, state_of}
 use Rattle.block_runner.specs.Beside.{TellsBeside}
 use Rattle.block_runner.specs.Ends.{EndsSo, GoesOn}
-use Rattle.block_runner.specs.declared.beside.GoodPhase.{GoodPhase}
+use Rattle.block_runner.specs.declared.goods.GoodPhase.{GoodPhase}
 use Rattle.window_runs.specs.OfPhase.{TellsRuns}
 use Rattle.run_numbers.specs.Numbers.{times_of}
 use Rattle.good_runs.specs.Kept.{Keeps}

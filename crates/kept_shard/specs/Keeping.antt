@@ -1,5 +1,6 @@
 -- What contracts see of a shard whose faults' samples are kept, and what stands of it behind so many slots of the good first run (strobes by the plan; slots by IEEE 1364-2001, clause 5).
-use Rattle.std.specs.Prelude.{◌≡◌, ℕ, true, List, [], map, length, None, Some, slice_get, sum_by}
+use Rattle.std.specs.Prelude.{◌≡◌, ℕ, true, List, [], map, length, Option, None, Some, slice_get, sum_by}
+use Rattle.std.specs.List.{filter_map}
 use Rattle.vf_base.specs.Base.{fault_number}
 use Rattle.vf_base.specs.Lists.{AllHold}
 use Rattle.v_design.specs.Designs.{FlatDesign, StuckAt, TestPlan}
@@ -56,3 +57,10 @@ kept_steps_of tally shard = sum_by (steps_of_kept tally shard.gone) shard.kept
 -- all that the fault of a number takes: through the end of its full grade, or to the plan's end
 abbrev pub full_steps_at : {design : FlatDesign} {plan : TestPlan} → OwnStepsOf design plan → ℕ → ℕ
 full_steps_at tally number = tally.all number true
+
+-- the listed faults whose machines go on
+abbrev pub open_kept : TestPlan → Kept → Option StuckAt
+open_kept plan kept = elim kept.end [ None ↦ slice_get plan.faults (fault_number kept.fault) | Some end ↦ None ]
+
+abbrev pub open_in : TestPlan → List Kept → List StuckAt
+open_in plan kept = filter_map (open_kept plan) kept

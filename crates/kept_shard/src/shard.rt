@@ -2,8 +2,10 @@
 
 ghost use Rattle.std.specs.Prelude.{◌≡◌, ◌<◌, ◌≤◌, sum_by, [], All, IfOk, OnErr, OnOk, length, map};
 ghost use Rattle.vf_base.specs.Base.{fault_number};
+ghost use Rattle.copy_laws.specs.Windows.{RiseAtMostOwn};
+ghost use Rattle.fault_strobes.specs.Said.{plan_by};
 ghost use Rattle.own_gradings.specs.Numbers.{OwnStepsOf, RisesOwn};
-ghost use Rattle.kept_shard.specs.Keeping.{KeepsAll, StandsKept, fresh_keeping, full_steps_at, kept_steps_of, numbers_of};
+ghost use Rattle.kept_shard.specs.Keeping.{KeepsAll, StandsKept, fresh_keeping, full_steps_at, kept_steps_of, numbers_of, open_in};
 
 use crate::samples::{kept_fresh, swap_each};
 use good_trace::Setup;
@@ -97,9 +99,12 @@ impl<N: World> KeptShard<N> {
         requires { window.now.before ≡ self.old.gone }
         ensures gone { OnOk result (self.new.gone ≡ window.now.through) }
         ensures numbers { OnOk result (numbers_of self.new.kept ≡ numbers_of self.old.kept) }
+        // Of each fault whose machine hasn't stopped, the own steps in the slots of the window.
+        ensures own { OnOk result (RiseAtMostOwn N.design (plan_by true N.plan) self.old.gone self.new.gone (open_in N.plan self.old.kept) steps.old steps.new) }
         ensures ticks { OnOk result (RisesOwn N.design N.plan (λ tally. kept_steps_of tally self.old) (λ tally. kept_steps_of tally self.new) steps.old steps.new) }
         ensures err { OnErr result (self.new ≡ record self.old { kept = [] }) }
     {
+        own_gradings::own_steps_rise();
         let trace = window.window();
         let _first = trace.begins();
         let mut faults = mem::replace(&mut self.faults, Vec::new(alloc));

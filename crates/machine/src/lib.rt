@@ -11,8 +11,10 @@
 //! in that state between two slots of the run of that fault, as if it had come there by itself. `time`, `state_of` and `updates_of` read where it stands.
 #![tactic(auto)]
 
+mod beside;
 mod calls;
 mod end;
+mod guide;
 mod moves;
 mod nodes;
 mod parts;

@@ -30,7 +30,8 @@ use Rattle.slot_laws.proofs.Going.{are-processes, are-there, clean, noted, tried
 use Rattle.slot_laws.proofs.Phases.{come-through}
 use Rattle.slot_laws.proofs.Rooms.{time-stays}
 use Rattle.slot_laws.proofs.Stops.{ends-there, phase-end, phase-there}
-use Rattle.phase_faults.specs.Beside.{AsksFilter, ComesThroughPhase, FaultsMayGo, HasComeBeside, HasSite, HaveGoneOn, IsAheadIf, IsRoomSomewhere, IsThereIf, LooksAhead, MayGoOnIf, PhaseGoesOnIf, ticked_of}
+use Rattle.phase_faults.specs.Beside.{AsksFilter, ComesThroughPhase, FaultsMayGo, HasComeBeside, HasSite, HaveGoneOn}
+use Rattle.phase_faults.specs.Beside.{IsAheadIf, IsRoomSomewhere, IsThereIf, LooksAhead, MayGoOnIf, PhaseGoesOnIf, ticked_of}
 use Rattle.phase_faults.specs.declared.beside.FaultBeside.{FaultBeside}
 use Rattle.phase_faults.proofs.Lists.{hold-map, sum-same, zip-holds, zip-join}
 
@@ -63,10 +64,12 @@ module _ (design : FlatDesign) (plan : TestPlan) (from until : ℕ) (moments : L
       let may = go goes in
       record {
         objects =
-            are-there design plan (fault_of each.fault) may.slot may.begins from until before.moment may.place before each.one.notes each.one.own each.one.spare each.one.tried.items each.one.apart.items may.on.room.at.before_at
+            are-there design plan (fault_of each.fault) may.slot may.begins from until before.moment may.place before each.one.notes each.one.own each.one.spare each.one.tried.items
+            each.one.apart.items may.on.room.at.before_at
             may.on.goes;
         processes =
-            are-processes design plan (fault_of each.fault) may.slot may.begins from until before.moment may.place before each.one.notes each.one.own each.one.spare each.one.tried.items each.one.apart.items may.on.room.at.before_at
+            are-processes design plan (fault_of each.fault) may.slot may.begins from until before.moment may.place before each.one.notes each.one.own each.one.spare each.one.tried.items
+            each.one.apart.items may.on.room.at.before_at
             may.on.goes;
       }
 
@@ -145,14 +148,17 @@ module _ (design : FlatDesign) (plan : TestPlan) (from until : ℕ) (moments : L
                 let same : next.moment ≡ end = omega (arith, within, at, there, past) in
                 let last =
                 subst
-                (λ (o : FaultInSlot). SlotGoesOn design plan (fault_of old.fault) slot begins from until number (further (length place.left) place) next_runner next later o.notes o.own o.spare o.tried.items
+                (λ (o : FaultInSlot). SlotGoesOn design plan (fault_of old.fault) slot begins from until number (further (length place.left) place) next_runner next later o.notes o.own
+                o.spare o.tried.items
                 o.apart.items)
                 (sym one)
-                (come-through design plan (fault_of old.fault) slot begins from until number place before.moment end next_runner next later each.one.notes each.one.own each.one.spare each.one.tried.items each.one.apart.items come there
+                (come-through design plan (fault_of old.fault) slot begins from until number place before.moment end next_runner next later each.one.notes each.one.own each.one.spare
+                each.one.tried.items each.one.apart.items come there
                 past) in
                 let all = further-all place in
                 let told =
-                noted design plan (fault_of old.fault) slot begins from until number (further (length place.left) place) next_runner next later new.one.notes new.one.own new.one.spare new.one.tried.items new.one.apart.items last all in
+                noted design plan (fault_of old.fault) slot begins from until number (further (length place.left) place) next_runner next later new.one.notes new.one.own new.one.spare
+                new.one.tried.items new.one.apart.items last all in
                 let free =
                 asks.free goes (fault_of old.fault) (further (length place.left) place) last.goes.at last.goes.pairs
                 (subst
@@ -160,13 +166,15 @@ module _ (design : FlatDesign) (plan : TestPlan) (from until : ℕ) (moments : L
                 record {
                   on = last;
                   clean =
-                      clean design plan (fault_of old.fault) slot begins from until number (further (length place.left) place) next_runner next later new.one.notes new.one.own new.one.spare new.one.tried.items new.one.apart.items last
+                      clean design plan (fault_of old.fault) slot begins from until number (further (length place.left) place) next_runner next later new.one.notes new.one.own new.one.spare
+                      new.one.tried.items new.one.apart.items last
                       steps all free;
                 };
             most = λ goes number slot begins place on.
                 subst (λ (o : FaultInSlot). TriedInSlot design (fault_of old.fault) slot begins o.tried.items) (sym one)
                 (has.most goes number slot begins place on (ends number place on.room)
-                (tried-there design plan (fault_of old.fault) slot begins from until number place runner before behind old.one.notes old.one.own old.one.spare old.one.tried.items old.one.apart.items on));
+                (tried-there design plan (fault_of old.fault) slot begins from until number place runner before behind old.one.notes old.one.own old.one.spare old.one.tried.items
+                old.one.apart.items on));
           }
 
       pub all-through : (counts counts_new : Counts) (faults looked gone asked : List FaultBeside) → AllZip (LooksAhead design plan from until moments before.moment end) faults looked →

@@ -50,7 +50,8 @@ moments-same design plan place one other first second from slot =
     second.moment_is ∙ (λ i. length (window_events design plan (from i) (from i + slot i)) + events_before place) ∙ sym first.moment_is
 
 module _ (design : FlatDesign) (plan : TestPlan) (fault : StuckAt) (slot : FirstSlot) (begins : State) (from until number : ℕ) (place : Place) (runner : Runner) (before behind later : MomentKept)
-    (notes : NotesKept) (own : LockstepCopy) (spare : ℕ) (tried : List TriedStep) (apart : List RunApart) (on : SlotGoesOn design plan fault slot begins from until number place runner before behind notes own spare tried apart)
+    (notes : NotesKept) (own : LockstepCopy) (spare : ℕ) (tried : List TriedStep) (apart : List RunApart) (on : SlotGoesOn design plan fault slot begins from until number place runner
+    before behind notes own spare tried apart)
     (ahead : PassesBlock design plan place behind later) where
   unfoldable pub may-run-own : (counts : Counts) → AreCounts design counts → MayRunOwn design plan fault from until runner before later counts notes own spare tried apart
   may-run-own counts counted = record {

@@ -172,4 +172,5 @@ returns-then-not-branch-clause-ticks g c = c.in_ok-run_own_block.ensures.ticks
 
 pub returns-clause-ticks : goal.returns-clause-ticks
 returns-clause-ticks g c =
-    subst (λ (e : FaultBeside). RisesWithin (length c.args.each.now.one.tried.items) (length e.one.tried.items) c.args.steps.now c.run_own_block.new.steps) (sym c.look_ahead.ensures.same) c.in_ok-run_own_block.ensures.ticks
+    subst (λ (e : FaultBeside). RisesWithin (length c.args.each.now.one.tried.items) (length e.one.tried.items) c.args.steps.now c.run_own_block.new.steps) (sym c.look_ahead.ensures.same)
+    c.in_ok-run_own_block.ensures.ticks
