@@ -87,7 +87,7 @@ counts-pass law (Beside kept) machine events at before now none comes same count
 pub counts-node : RunsGoBeside → (guide : Guide) (machine : Machine) (node : ℕ) (at : Moment) (before now : ℕ) → ComesTo machine (after_node machine node at) → Counts guide machine at before now →
     Counts guide machine (after_node machine node at) before now
 counts-node law guide machine node at before now comes counts =
-    counts-pass law guide machine (Evaluation node ∷ NetUpdate node ∷ []) at before now ((λ p. refl), (λ p. refl), tt) comes ticks counts
+    counts-pass law guide machine (Evaluation node ∷ NetUpdate node ∷ []) at before now ((λ p. refl), ((λ p. refl), tt)) comes ticks counts
   where
     ticks : steps_so_far (after_node machine node at) ≡ steps_so_far at
     ticks = so-far-event machine (NetUpdate node) (after_event machine (Evaluation node) at) ∙ ap (λ n. n + 0) (so-far-event machine (Evaluation node) at) ∙ none (steps_so_far at)

@@ -40,7 +40,8 @@ impl<'d> Machine<'d> {
         requires left { IsSomeAnd (begins_next self.old) (λ begins. begins.time ≤ 2 ^ 63) }
         requires counts { (begins : State) → begins_next self.old ≡ Some begins → Counts guide.old (machine_kept self.old) (first_moment begins) steps.old steps.old }
         ensures machine { IfOk result (λ _. machine_kept self.new ≡ machine_kept self.old) }
-        ensures slot { IfOk result (λ end. (begins : State) → begins_next self.old ≡ Some begins → RunsSlot (machine_kept self.old) begins (first_turn self.old.stage) end self.new log.new) }
+        ensures slot { IfOk result (λ end. (begins : State) → begins_next self.old ≡ Some begins →
+            RunsSlot (machine_kept self.old) begins (first_turn self.old.stage) end self.new log.new) }
         ensures stays { OnOk result (StaysGuide guide.old guide.new) }
         ensures counts { IfOk result (λ _. (begins : State) → begins_next self.old ≡ Some begins → HasCounted (machine_kept self.old) begins guide.new steps.old steps.new) }
         ensures every_order { IfOk result (λ _. (begins : State) → begins_next self.old ≡ Some begins → EveryOrderEndsHere (machine_kept self.old) begins self.new) }
@@ -55,9 +56,9 @@ impl<'d> Machine<'d> {
         Ok(end)
     }
 
-    /// Runs the next slot as `slot` does, but beside the good machine's slot of that time, of which `goods` has the runs: a step of a run that goes as the good machine's is brought from there, and one that
-    /// was tried in this slot before, as `tried` has them in their order, from there. `steps` ticks once for each other step of a process: together with those that were tried at most once for each own
-    /// step of the slot.
+    /// Runs the next slot as `slot` does, but beside the good machine's slot of that time, of which `goods` has the runs: a step of a run that goes as the good machine's is
+    /// brought from there, and one that was tried in this slot before, as `tried` has them in their order, from there. `steps` ticks once for each other step of a
+    /// process: together with those that were tried at most once for each own step of the slot.
     ///
     /// # Errors
     ///
@@ -74,12 +75,14 @@ impl<'d> Machine<'d> {
         requires left { IsSomeAnd (begins_next self.old) (λ begins. begins.time ≤ 2 ^ 63) }
         requires goods { MayGoBeside (machine_kept self.old) (begins_next self.old) goods.now tried.now }
         ensures machine { IfOk result (λ _. machine_kept self.new ≡ machine_kept self.old) }
-        ensures slot { IfOk result (λ end. (begins : State) → begins_next self.old ≡ Some begins → RunsSlot (machine_kept self.old) begins (first_turn self.old.stage) end self.new log.new) }
+        ensures slot { IfOk result (λ end. (begins : State) → begins_next self.old ≡ Some begins →
+            RunsSlot (machine_kept self.old) begins (first_turn self.old.stage) end self.new log.new) }
         ensures ticks { IfOk result (λ _. (begins : State) (good_slots : List FirstSlot) (found : Option FirstSlot) → begins_next self.old ≡ Some begins →
             find (λ (other : FirstSlot). nat_eq other.begins.time begins.time) good_slots ≡ found →
             TellsSlot (machine_kept self.old).design begins.time (phases_if (good_machine (machine_kept self.old).design) found) goods.now →
             WereTried (good_machine (machine_kept self.old).design) (machine_kept self.old) (phases_if (good_machine (machine_kept self.old).design) found) begins tried.now →
-            TicksAtMostOwn (slot_beside (good_machine (machine_kept self.old).design) (machine_kept self.old) good_slots (slot_from (machine_kept self.old) begins)) (length tried.now) steps.old steps.new) }
+            TicksAtMostOwn (slot_beside (good_machine (machine_kept self.old).design) (machine_kept self.old) good_slots (slot_from (machine_kept self.old) begins)) (length tried.now)
+            steps.old steps.new) }
         ensures every_order { IfOk result (λ _. (begins : State) → begins_next self.old ≡ Some begins → EveryOrderEndsHere (machine_kept self.old) begins self.new) }
         ensures standing { IfOk result (λ _. IsStanding self.new) }
         ensures notes { IfOk result (λ _. notes_runs self.new ≡ notes_runs self.old) }

@@ -239,8 +239,7 @@ module _ (serve : Serve) (machine : Machine) (others : List Phase) (at : Moment)
         IsKnownStep machine at.state process line act next × ((code : Code) → IsCodeAt machine.design process code → IsStateOf code next) × FollowsOn (followed_at machine others at process) behind run
     known-here found r line act next is =
         let k = serve.known.known machine at.state process r.run r.good found line act next r.tells r.in_run r.follows
-        (subst (λ (n : ℕ). IsKnownAt at.state.values found n line act next) (sym r.taken) is) in
-        (
+        (subst (λ (n : ℕ). IsKnownAt at.state.values found n line act next) (sym r.taken) is) in (
           k.0,
           k.1,
           record {

@@ -17,6 +17,6 @@ returns-in_ok-stepped-in-Some-clause-beside g c = λ machine others at ticked go
     record {
       more = 0;
       rose = refl;
-      goes = subst (λ (n : ℕ). GoesBeside machine others (after_event machine (Step (process_number c.args.process)) at) n _) none
+      goes = subst (λ (n : ℕ). GoesBeside machine others (after_event machine (Step (process_number c.args.process)) at) n c.step_again.new.self) none
           (c.in_ok-stepped-in-Some.ensures.beside machine others at ticked goes here);
     }

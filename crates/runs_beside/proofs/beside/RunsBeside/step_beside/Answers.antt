@@ -69,8 +69,8 @@ returns-in_ok-stepped-in-None-clause-beside g c = λ machine others at ticked go
       more = 1;
       rose = c.step.ensures.ticks;
       goes =
-          goes-behind serve machine others at ticked c.args.self.now goes c.args.table.now c.args.phase (process_number c.args.process) here c.args.run c.requires.run c.note.new.self c.in_ok-stepped-in-None.stepped.ready false c.note.ensures.goods c.note.ensures.runs (ticked + 1)
-          (subst (λ (n : ℕ). IsAgain (good_machine machine.design) machine others c.note.new.self.tried.now behind n (ticked + 1)) (sym c.note.ensures.next)
-          (subst (λ (l : List TriedStep). IsAgain (good_machine machine.design) machine others l behind old.next (ticked + 1)) (sym c.note.ensures.tried) again))
+          goes-behind serve machine others at ticked c.args.self.now goes c.args.table.now c.args.phase (process_number c.args.process) here c.args.run c.requires.run c.note-in-None.new.self c.in_ok-stepped-in-None.stepped.ready false c.note-in-None.ensures.goods c.note-in-None.ensures.runs (ticked + 1)
+          (subst (λ (n : ℕ). IsAgain (good_machine machine.design) machine others c.note-in-None.new.self.tried.now behind n (ticked + 1)) (sym c.note-in-None.ensures.next)
+          (subst (λ (l : List TriedStep). IsAgain (good_machine machine.design) machine others l behind old.next (ticked + 1)) (sym c.note-in-None.ensures.tried) again))
           (kept-own serve machine others at ticked c.args.self.now goes c.args.table.now c.args.phase (process_number c.args.process) here c.args.run c.requires.run c.in_ok-stepped-in-None.stepped.ready (ready-behind serve machine others at ticked c.args.self.now goes c.args.table.now c.args.phase (process_number c.args.process) here c.args.run c.requires.run ∙ sym step.ready) own);
     }
