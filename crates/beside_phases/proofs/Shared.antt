@@ -10,7 +10,6 @@ use Rattle.v_design.specs.Designs.{FlatDesign, Machine, StuckAt, good_machine, f
 use Rattle.v_design.specs.OwnSteps.{StepSeen, seen_if, seen_step, steps_in, value_read}
 use Rattle.v_design.specs.PhaseLogs.{is_step_of}
 use Rattle.v_design.specs.Processes.{Activity, Action, ReadsObject, WritesObject, AppendsUpdate, TouchesNothing, ProcessStep}
-use Rattle.v_design.specs.Runs.{happened}
 use Rattle.v_design.specs.States.{State, ProcessState, Event, Step, LaneStep, Evaluation, NetUpdate, after, found_or, process_at, step_of}
 use Rattle.v_design.specs.WellFormed.{KeepsRules}
 use Rattle.copy_laws.specs.Beside.{AreFirst}

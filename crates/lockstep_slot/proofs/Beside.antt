@@ -1,5 +1,5 @@
 -- A fault beside a room, from place to place of a slot.
-use Rattle.std.proofs.Common.{◌≡◌, ◌+◌, ◌≤◌, ℕ, Bool, true, false, List, [], ◌∷◌, length, refl, sym, subst, ◌∙◌, arith}
+use Rattle.std.proofs.Common.{◌≡◌, ◌+◌, ◌≤◌, ℕ, Bool, true, false, List, [], ◌∷◌, length, refl, sym, subst, ◌∙◌}
 use Rattle.std.specs.Prelude.{Some, slice_get}
 use Rattle.vf_base.specs.declared.limits.TheConstants.{MAX_END}
 use Rattle.v_design.specs.Designs.{FlatDesign, TestPlan, good_machine}

@@ -4,16 +4,12 @@ use Rattle.std.specs.Prelude.{Some}
 use Rattle.std.proofs.lemmas.Option.{slice_get-get_or}
 use Rattle.std.specs.List.{AllZip, sum_by}
 use Rattle.vf_base.specs.Lists.{AllHold}
-use Rattle.v_design.specs.Designs.{FlatDesign, StuckAt, TestPlan, faulty_machine}
+use Rattle.v_design.specs.Designs.{FlatDesign, TestPlan}
 use Rattle.v_design.specs.Plain.{fault_of, site_of}
-use Rattle.v_design.specs.Runs.{FirstSlot}
-use Rattle.v_design.specs.States.{State}
-use Rattle.machine_laws.specs.SlotLoop.{slot_from}
 use Rattle.slot_laws.specs.block_events.declared.runner.Runner.{Runner}
 use Rattle.slot_laws.specs.copy_skip.Limits.{SiteIsThere}
 use Rattle.slot_laws.specs.lockstep_block.Blocks.{TriedInSlot}
 use Rattle.slot_laws.specs.lockstep_block.declared.room.FaultInSlot.{FaultInSlot}
-use Rattle.slot_laws.specs.lockstep_copy.declared.own.LockstepCopy.{LockstepCopy}
 use Rattle.slot_laws.specs.lockstep_filter.Phases.{IsPhaseNoted}
 use Rattle.slot_laws.specs.lockstep_places.Places.{PlacesTold}
 use Rattle.slot_laws.specs.lockstep_room.declared.counts.Counts.{Counts}
@@ -21,7 +17,6 @@ use Rattle.slot_laws.specs.lockstep_room.Rooms.{AreCounts}
 use Rattle.slot_laws.specs.lockstep_slots.Places.{Place}
 use Rattle.slot_laws.specs.lockstep_steps.Laws.{StepsGoOn}
 use Rattle.slot_laws.specs.moment_laws.Shown.{MomentKept}
-use Rattle.race_notes.specs.Notes.{NotesKept}
 use Rattle.slot_laws.specs.graded_steps.Behind.{RisesWithin}
 use Rattle.window_blocks.specs.Kept.{AreBlocksOf, BlocksKept}
 use Rattle.slot_laws.specs.Slots.{IsRoomIn, PhaseEndsAt, SlotGoesOn, SlotMayGoOn, further}

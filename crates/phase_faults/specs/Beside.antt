@@ -6,7 +6,6 @@ use Rattle.v_design.specs.Designs.{FlatDesign, StuckAt, TestPlan}
 use Rattle.v_design.specs.Plain.{fault_of, site_of}
 use Rattle.v_design.specs.Runs.{FirstSlot}
 use Rattle.v_design.specs.States.{State}
-use Rattle.v_design.specs.declared.plan.Fault.{Fault}
 use Rattle.machine_laws.specs.SlotLoop.{Moment}
 use Rattle.trace_window.specs.Moments.{window_events}
 use Rattle.slot_laws.specs.block_events.declared.runner.Runner.{Runner}

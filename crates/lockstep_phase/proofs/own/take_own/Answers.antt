@@ -1,5 +1,5 @@
 -- A fault that still goes, and whose stop isn't ahead, takes a block of its own.
-use Rattle.std.proofs.Common.{◌≤◌, length, refl, sym, ap, subst, ◌∙◌, arith}
+use Rattle.std.proofs.Common.{length, refl, sym, ap, subst, ◌∙◌, arith}
 use Rattle.std.proofs.lemmas.Bool.{false≢true}
 use Rattle.v_design.specs.Plain.{fault_of}
 use Rattle.lockstep_turn.specs.graded_steps.Behind.{RisesWithin}

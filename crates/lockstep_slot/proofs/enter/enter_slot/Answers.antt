@@ -1,5 +1,5 @@
 -- The steps that the slot's events leave are to spare.
-use Rattle.std.proofs.Common.{◌≡◌, ◌+◌, suc, length, refl, sym, ap, subst, ◌∙◌, arith}
+use Rattle.std.proofs.Common.{◌≡◌, ◌+◌, suc, length, sym, ap, subst, ◌∙◌, arith}
 use Rattle.v_design.specs.Plain.{fault_of}
 use Rattle.copy_state.specs.Copied.{KeepsSame}
 use Rattle.copy_state.specs.Kept.{CopyKept}
