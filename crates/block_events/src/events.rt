@@ -149,7 +149,7 @@ impl<'d> Runner<'d> {
         machine_laws::phases_go_on();
         copy_laws::moves();
         race_laws::writes_stay();
-        let followed = follow_alone(
+        if let Err(error) = follow_alone(
             &mut self.nets,
             &mut self.table,
             &mut self.told,
@@ -157,12 +157,14 @@ impl<'d> Runner<'d> {
             line,
             act,
             next,
-        )?;
+        ) {
+            return Err(error);
+        }
         let ready = self.table.is_ready(process);
         let first = note_step(&mut self.running, process, ready)?;
         told.count_step(process, first)?;
         told.add_step(&self.told)?;
-        Ok(followed.line)
+        Ok(line)
     }
 
     /// The least lane's first update is written, where no node has work. It is the first event of the block. It answers the line of its statement. Each process is still to
