@@ -21,7 +21,9 @@ use crate::runner::Runner;
 use block_told::{BlockTold, note_step};
 use machine_events::{follow_alone, lane_alone, node_alone, step_alone};
 use process_code::{ProcState, StepAct};
+use process_table::Act;
 use std::sync::ledger::Ledger;
+use v_design::Due;
 use vf_base::{NoMemory, NodeId, ProcId, Steps};
 
 /// A step that a process took: the line of its statement, what it did, and where the process stands behind it.
@@ -149,7 +151,7 @@ impl<'d> Runner<'d> {
         machine_laws::phases_go_on();
         copy_laws::moves();
         race_laws::writes_stay();
-        if let Err(error) = follow_alone(
+        let followed = follow_alone(
             &mut self.nets,
             &mut self.table,
             &mut self.told,
@@ -157,14 +159,15 @@ impl<'d> Runner<'d> {
             line,
             act,
             next,
-        ) {
-            return Err(error);
-        }
+        )?;
+        // Named, since what checks borrows here has to be told of the types of a step's parts.
+        let _done: Option<Act> = followed.act;
+        let _later: Option<Due> = followed.later;
         let ready = self.table.is_ready(process);
         let first = note_step(&mut self.running, process, ready)?;
         told.count_step(process, first)?;
         told.add_step(&self.told)?;
-        Ok(line)
+        Ok(followed.line)
     }
 
     /// The least lane's first update is written, where no node has work. It is the first event of the block. It answers the line of its statement. Each process is still to

@@ -34,5 +34,5 @@ follow_alone-requires-clause-known c = λ machine state both.
 pub returns : goal.returns
 returns c =
     step-goes c.phases_go_on.ensures.notes c.moves.ensures.events c.args.self.now _ c.args.process _ c.follow_alone.new.told c.args.told.now c.count_step.new.self
-    c.add_step.new.self c.in_ok-first.first c.is_ready-ready.result c.requires.whole c.requires.nodes c.requires.lanes c.requires.ready c.in_default.ensures c.is_ready-ready.ensures
+    c.add_step.new.self c.in_ok-first.first c.is_ready-ready.result c.requires.whole c.requires.nodes c.requires.lanes c.requires.ready c.in_ok-followed.ensures c.is_ready-ready.ensures
     c.in_ok-first.ensures.begins c.in_ok-first.ensures.running c.in_ok-count_step.ensures c.in_ok-add_step.ensures
