@@ -7,8 +7,9 @@ ghost use Rattle.v_design.specs.OwnSteps.{ProcessRun};
 ghost use Rattle.v_design.specs.Plain.{fault_of};
 ghost use Rattle.block_compare.specs.block_events.Runners.{IsWhole, machine_of, state_of};
 ghost use Rattle.block_runner.specs.Beside.{AreFew, MayGoBeside, TellsBeside};
+ghost use Rattle.block_runner.specs.Ends.{TicksTried};
 ghost use Rattle.block_runner.specs.declared.blocks.BlockEnd.TheVariants.{Ran};
-ghost use Rattle.faulty_block.specs.Runs.{MayRun, RanBlock, StepsWithin, TicksTried, acts_in};
+ghost use Rattle.faulty_block.specs.Runs.{MayRun, RanBlock, StepsWithin, acts_in};
 
 use block_compare::{LockstepCopy, Runner, ShownBlock, put_in};
 use block_runner::{Beside, BlockEnd, GoodPhase, run_block};
