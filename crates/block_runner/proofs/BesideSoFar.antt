@@ -10,7 +10,7 @@ use Rattle.vf_base.specs.declared.ids.ProcId.{ProcId}
 use Rattle.v_design.specs.Designs.{Machine}
 use Rattle.v_design.specs.OwnSteps.{ProcessRun, runs_of, seen_step, steps_in}
 use Rattle.v_design.specs.Runs.{happened}
-use Rattle.v_design.specs.States.{State, Event, Step, after, is_process_event, is_ready, process_at, step_of}
+use Rattle.v_design.specs.States.{State, Event, Step, after, is_process_event, is_ready, process_at, source_at, step_of}
 use Rattle.process_code.specs.RunEnds.{act_of}
 use Rattle.machine_events.specs.Steps.{raised_by, raised-sum}
 use Rattle.copy_laws.specs.OwnRuns.{grow, last_goes_on}
@@ -41,14 +41,14 @@ use Rattle.block_runner.proofs.Growing.{nodes-more, other-more, own-more, ready-
 use Rattle.block_runner.proofs.Keeping.{behind-old, keeps-append, keeps-none, keeps-one}
 use Rattle.block_runner.proofs.Listed.{listed-more, row-other, row-own}
 use Rattle.block_runner.proofs.Runs.{nodes-quiet}
-use Rattle.block_runner.proofs.Next.{RowRun, row-run, tells-behind}
+use Rattle.block_runner.proofs.AtRuns.{RowRun, row-run, tells-behind}
 
 -- the same of a later state of the present time
 pub tells-later : (machine : Machine) (begins state : State) (runs : ℕ → List ProcessRun) (numbers : ℕ → ℕ) (kept : GoodPhase) → begins.time ≡ state.time →
     TellsBeside machine begins runs numbers kept → TellsBeside machine state runs numbers kept
 tells-later machine begins state runs numbers kept time tells = record {
   tells = subst (λ (t : ℕ). TellsRuns machine.design t runs kept.goods) time tells.tells;
-  each = λ process there. subst (λ (t : ℕ). AllHold (IsRunFrom _ t) (runs process)) time (tells.each process there);
+  each = λ process there. subst (λ (t : ℕ). AllHold (IsRunFrom (source_at machine process) t) (runs process)) time (tells.each process there);
   are = tells.are;
   count = tells.count;
 }

@@ -1,6 +1,6 @@
 // A shard of faults whose samples are kept.
 
-ghost use Rattle.std.specs.Prelude.{◌≡◌, ◌<◌, ◌≤◌, sum_by, [], All, IfOk, OnErr, OnOk, length, map};
+ghost use Rattle.std.specs.Prelude.{◌≡◌, ◌<◌, ◌≤◌, sum_by, [], All, IfOk, OnErr, OnOk, length, map, true};
 ghost use Rattle.vf_base.specs.Base.{fault_number};
 ghost use Rattle.copy_laws.specs.Windows.{RiseAtMostOwn};
 ghost use Rattle.fault_strobes.specs.Said.{plan_by};

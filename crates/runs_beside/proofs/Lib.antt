@@ -2,6 +2,6 @@ pub mod Kept
 pub mod Grown
 pub mod Phases
 pub mod Next
-pub mod Choice
+pub mod Choosing
 pub mod Stepped
-pub mod Laws
+pub mod GoingOn

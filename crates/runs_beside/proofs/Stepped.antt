@@ -37,7 +37,7 @@ use Rattle.runs_beside.specs.Choice.{ComesLater, ComesNext}
 use Rattle.runs_beside.specs.Runs.{IsRunSoFar, Rests, Follows, Owns, behind_step, kept_in, run_at}
 use Rattle.runs_beside.specs.declared.beside.RunsBeside.{RunsBeside}
 use Rattle.runs_beside.specs.declared.run.RunSoFar.{RunSoFar}
-use Rattle.runs_beside.proofs.Choice.{Serve, so-far}
+use Rattle.runs_beside.proofs.Choosing.{Serve, so-far}
 use Rattle.runs_beside.proofs.Grown.{going-push, last-going, place-new, place-on}
 use Rattle.runs_beside.proofs.Kept.{kept-now, kept-phase, set-here, set-length, set-there, step-phase}
 use Rattle.runs_beside.proofs.Next.{behind-new, behind-on, new_run}
@@ -99,20 +99,20 @@ grow-ready (run ∷ next ∷ after ∷ runs) step = grow-ready (next ∷ after �
 module _ (serve : Serve) (machine : Machine) (others : List Phase) (at : Moment) (ticked : ℕ) (old : RunsBeside) (goes : GoesBeside machine others at ticked old) (table : ProcessTable)
     (phase process : ℕ) (here : IsNextHere machine at table phase process) (run : RunSoFar) (is_run : run ≡ run_at phase old.runs.items process)
   where
-    abbrev good : Machine
+    abbrev pub good : Machine
     good = good_machine machine.design
 
-    abbrev runs : List ProcessRun
+    abbrev pub runs : List ProcessRun
     runs = process_runs machine process (present_phase at)
 
-    abbrev behind : List ProcessRun
+    abbrev pub behind : List ProcessRun
     behind = process_runs machine process (behind_event (present_phase at) (Step process))
 
     so_far : IsRunSoFar (followed_at machine others at process) (counted_at machine others at process) runs run
     so_far = so-far serve machine others at ticked old goes table phase process here run is_run
 
     -- it goes on where the process is ready
-    ready-behind : last_goes_on behind ≡ is_ready (step_of machine at.state process).next
+    pub ready-behind : last_goes_on behind ≡ is_ready (step_of machine at.state process).next
     ready-behind =
         subst (λ (s : State). last_goes_on behind ≡ is_ready (step_of machine s process).next) (sym here.comes.happened_so_far)
         (ap last_goes_on (runs-grow serve.steps serve.runs machine process (present_phase at)) ∙ grow-ready runs (step_more serve.steps serve.runs machine process (present_phase at)))

@@ -61,7 +61,11 @@ impl<'w> RunsBeside<'w> {
         ensures { result ≡ run_at phase self.now.runs.items (process_number process) }
     {
         let run = self.runs[process.0 as usize];
-        if run.phase == phase { run } else { no_run(phase) }
+        if run.phase == phase {
+            run
+        } else {
+            no_run(phase)
+        }
     }
 
     /// A process took a step of its present run, after which it is ready or not.

@@ -153,6 +153,8 @@ impl<'w> RunsBeside<'w> {
             (λ known. IsKnownHere self.now table.now nets.now phase (process_number process) run known) }
     {
         known_steps::known_steps_go_on();
+        copy_laws::own_runs();
+        copy_laws::shared_runs();
         own_counts::own_steps_count();
         table.reads_are_there();
         let Some(good) = self.good_run(table, phase, process, run) else {

@@ -40,12 +40,14 @@ returns-clause-ticks g c =
     let plan = g.N.World.plan in
     let moved = c.go_through.new.beside.shards.items in
     let numbers = representatives_of c.args.shards.now in
-    record { within = λ steps each. c.own_steps_rise.ensures.exist design plan c.go_through.new.steps (c.args.steps.now + (good_steps design plan + sum steps)) (λ tally.
-    let most = rises-all design plan tally c.args.ahead.now.run.ran c.go_through.new.ahead.run.ran c.args.steps.now c.go_through.new.steps (sum_by (full_steps_at tally) numbers)
-    c.in_ok-own.own.items moved c.in_ok-loops.ensures.ticks c.requires.none.1
-    (subst (λ (l : List _). all_steps tally moved ≤ sum_by (full_steps_at tally) l) (c.in_ok-loops.ensures.faults ∙ c.in_ok-own.ensures.faults)
-    (c.in_ok-faults.ensures.steps tally)) in
-    let all : sum_by (full_steps_at tally) numbers ≡ sum steps =
-    c.own_steps_rise.ensures.sums design plan tally true numbers steps
-    (λ number found. (let is = (c.requires.shards.representatives.each number).0 found in (is.fault, is.listed))) each in
-    omega (arith, most, all)) }
+    record {
+      within = λ steps each. c.own_steps_rise.ensures.exist design plan c.go_through.new.steps (c.args.steps.now + (good_steps design plan + sum steps)) (λ tally.
+          let most = rises-all design plan tally c.args.ahead.now.run.ran c.go_through.new.ahead.run.ran c.args.steps.now c.go_through.new.steps (sum_by (full_steps_at tally) numbers)
+          c.in_ok-own.own.items moved c.in_ok-loops.ensures.ticks c.requires.none.1
+          (subst (λ (l : List _). all_steps tally moved ≤ sum_by (full_steps_at tally) l) (c.in_ok-loops.ensures.faults ∙ c.in_ok-own.ensures.faults)
+          (c.in_ok-faults.ensures.steps tally)) in
+          let all : sum_by (full_steps_at tally) numbers ≡ sum steps =
+          c.own_steps_rise.ensures.sums design plan tally true numbers steps
+          (λ number found. (let is = (c.requires.shards.representatives.each number).0 found in (is.fault, is.listed))) each in
+          omega (arith, most, all));
+    }

@@ -1,5 +1,5 @@
 -- The law.
-use Rattle.runs_beside.proofs.Laws.{runs_go_beside}
+use Rattle.runs_beside.proofs.GoingOn.{runs_go_beside}
 use Rattle.runs_beside.proofs.laws.runs_go_beside.Goals as goal
 
 pub returns : goal.returns

@@ -117,8 +117,7 @@ module _ (law : SecondRuns) (steps_grow : StepsGrow) (runs_grow : RunsGrow) wher
         some = rose.some;
         may = subst (λ (s : State). MayServe machine s rose.some kept.goods kept.tried.now) (sym same) rose.may;
         each = λ others serves.
-            let had = rose.each others (subst (λ (s : State). MayServe machine s others kept.goods kept.tried.now) same serves) in
-            (
+            let had = rose.each others (subst (λ (s : State). MayServe machine s others kept.goods kept.tried.now) same serves) in (
               had.0,
               had.1,
               with-again machine others (after_events machine events at) had.0 kept
@@ -171,8 +170,7 @@ turns law machine turn at kept before now comes rose = record {
   some = rose.some;
   may = rose.may;
   each = λ others serves.
-      let had = rose.each others serves in
-      (
+      let had = rose.each others serves in (
         had.0,
         had.1,
         turn-goes machine others at turn had.0 kept had.2
@@ -187,8 +185,7 @@ ends : SecondRuns → (machine : Machine) (hyper : Bool) (at : Moment) (kept : R
     MayServe machine at.begins (phases_if (good_machine machine.design) found) kept.goods kept.tried.now → RoseBeside machine at kept before now →
     (ticked : ℕ) × (now ≡ raised_by ticked before) × AtMostOwn (slot_beside (good_machine machine.design) machine good_slots (slot_from machine at.begins)) (ticked + length kept.tried.now)
 ends law machine hyper at kept before now good_slots found comes end is serves rose =
-    let had = rose.each (phases_if (good_machine machine.design) found) serves in
-    (
+    let had = rose.each (phases_if (good_machine machine.design) found) serves in (
       had.0,
       had.1,
       law.ends (good_machine machine.design) machine good_slots found kept.tried.now at hyper kept.next had.0 comes end is had.2.again,

@@ -1,6 +1,7 @@
 -- Which run of the good machine goes beside a process's present run.
 use Rattle.std.proofs.Common.{◌≡◌, ℕ, ◌+◌, ◌<◌, Bool, true, false, List, [], ◌∷◌, ◌++◌, length, refl, sym, ap, subst, ◌∙◌, arith}
-use Rattle.std.specs.Prelude.{Option, Some, None, IfSome, slice_get}
+use Rattle.std.specs.Prelude.{Option, Some, None, IfSome, MatchOption, slice_get}
+use Rattle.std.specs.Option.{option_map}
 use Rattle.std.proofs.lemmas.Bool.{true≢false}
 use Rattle.std.proofs.lemmas.List.{length_push}
 use Rattle.v_design.specs.Designs.{FlatDesign, FlatProcess, Machine, good_machine}
@@ -26,7 +27,10 @@ use Rattle.copy_overlay.specs.Statuses.{AllCount}
 use Rattle.present_runs.specs.PresentRuns.{PresentRunsLead}
 use Rattle.machine_laws.specs.SlotLoop.{Moment, ComesTo, present_phase}
 use Rattle.own_counts.specs.Counts.{OwnLast, OwnStepsCount, behind_event}
-use Rattle.process_table.specs.Arranged.{table_of}
+use Rattle.machine_events.specs.PartLaws.{table-count}
+use Rattle.net_state.specs.declared.state.NetState.{NetState}
+use Rattle.net_state.specs.States.{values_in}
+use Rattle.process_table.specs.Arranged.{IsKept, table_of}
 use Rattle.process_table.specs.Deeds.{read_of}
 use Rattle.process_table.specs.Known.{IsKnownStep, read_told}
 use Rattle.process_table.specs.Tables.{process_in}
@@ -35,8 +39,9 @@ use Rattle.process_table.specs.declared.table.ProcessTable.{ProcessTable}
 use Rattle.window_runs.specs.OfPhase.{TellsGoodRun}
 use Rattle.window_runs.specs.OfSlot.{TellsSlot, run_in}
 use Rattle.known_steps.specs.Known.{IsKnownAt, PartsAt}
+use Rattle.known_steps.specs.declared.known.KnownStep.{KnownStep}
 use Rattle.known_steps.specs.Beside.{FollowsSoFar, KnownStepsGoOn, run_behind}
-use Rattle.runs_beside.specs.Beside.{GoesBeside, FollowsOn, IsNextHere, RunHere, counted_at, followed_at}
+use Rattle.runs_beside.specs.Beside.{GoesBeside, FollowsOn, IsAloneHere, IsBesideHere, IsKnownHere, IsNextHere, IsOwnHere, RunHere, counted_at, followed_at}
 use Rattle.runs_beside.specs.Choice.{BeginsAlike, BeginsOtherwise, HasNone, Differs}
 use Rattle.runs_beside.specs.Runs.{IsRunSoFar, Rests, Follows, Owns, run_at, runs_in}
 use Rattle.runs_beside.specs.declared.beside.RunsBeside.{RunsBeside}
@@ -71,19 +76,19 @@ body_or o = (found_or (record { always = false; body = Null; place = record { li
 module _ (serve : Serve) (machine : Machine) (others : List Phase) (at : Moment) (ticked : ℕ) (kept : RunsBeside) (goes : GoesBeside machine others at ticked kept) (table : ProcessTable)
     (phase process : ℕ) (here : IsNextHere machine at table phase process) (run : RunSoFar) (is_run : run ≡ run_at phase kept.runs.items process)
   where
-    abbrev good : Machine
+    abbrev pub good : Machine
     good = good_machine machine.design
 
-    abbrev other : Option Phase
+    abbrev pub other : Option Phase
     other = slice_get others (length at.ended)
 
-    abbrev runs : List ProcessRun
+    abbrev pub runs : List ProcessRun
     runs = process_runs machine process (present_phase at)
 
-    abbrev behind : List ProcessRun
+    abbrev pub behind : List ProcessRun
     behind = process_runs machine process (behind_event (present_phase at) (Step process))
 
-    so-far : IsRunSoFar (followed_at machine others at process) (counted_at machine others at process) runs run
+    pub so-far : IsRunSoFar (followed_at machine others at process) (counted_at machine others at process) runs run
     so-far =
         subst (IsRunSoFar (followed_at machine others at process) (counted_at machine others at process) runs)
         (ap (λ (n : ℕ). run_at n kept.runs.items process) (sym here.phase_is) ∙ sym is_run) (goes.each process here.there)
@@ -127,9 +132,6 @@ module _ (serve : Serve) (machine : Machine) (others : List Phase) (at : Moment)
     rests (Owns before own are going number taken follows own_so) zero_is = absurd (going-some own.steps going (taken ∙ zero_is))
 
     module _ (coded : HasCode table process) (zero_is : run.taken ≡ 0) where
-      first : ProcessRun
-      first = new_run at.state process
-
       behind-first : behind ≡ runs ++ run_behind machine at.state process (new_run at.state process) ∷ []
       behind-first = behind-new serve.steps serve.runs machine at here.comes process (rests so-far zero_is).0
 
@@ -146,7 +148,7 @@ module _ (serve : Serve) (machine : Machine) (others : List Phase) (at : Moment)
           AllCount (Some f.good) (run_behind machine at.state process (new_run at.state process))
       begin-differs found f (HasNone none) = serve.known.stepless machine at.state process (new_run at.state process) f.good found f.tells none
       begin-differs found f (Differs one there differs) =
-          serve.known.stays (Some f.good) (new_run at.state process) _
+          serve.known.stays (Some f.good) (new_run at.state process) (seen_step machine at.state process ∷ [])
           (serve.known.other f.good (new_run at.state process)
           (λ same.
           let code = coded.0 in
@@ -181,33 +183,33 @@ module _ (serve : Serve) (machine : Machine) (others : List Phase) (at : Moment)
 
     module _ (leads : PresentRunsLead) (amid : 0 < run.taken) where
       own-on : IsRunSoFar (followed_at machine others at process) (counted_at machine others at process) runs run → run.follows ≡ false → OwnLast (counted_at machine others at process) behind
-      own-on (Rests none number taken) no = absurd (omega (arith, amid, taken))
-      own-on (Follows before own are going number taken follows goes_so) no = absurd (true≢false (sym follows ∙ no))
-      own-on (Owns before own are going number taken follows own_so) no =
+      own-on (Rests none number taken) off = absurd (omega (arith, amid, taken))
+      own-on (Follows before own are going number taken follows goes_so) off = absurd (true≢false (sym follows ∙ off))
+      own-on (Owns before own are going number taken follows own_so) off =
           let is : behind ≡ before ++ run_behind machine at.state process own ∷ [] = behind-on serve.steps serve.runs machine at here.comes process before own are going in
           subst (OwnLast (counted_at machine others at process)) (sym is)
           (serve.counts.last (counted_at machine others at process) before (run_behind machine at.state process own)
-          (serve.known.stays (slice_get (counted_at machine others at process) (length before)) own _
+          (serve.known.stays (slice_get (counted_at machine others at process) (length before)) own (seen_step machine at.state process ∷ [])
           (own-last (counted_at machine others at process) before own (subst (OwnLast (counted_at machine others at process)) are own_so))))
 
       pub goes-own : run.follows ≡ false → OwnLast (counted_at machine others at process) behind
-      goes-own no = own-on so-far no
+      goes-own off = own-on so-far off
 
       follow-none : HasCode table process → IsRunSoFar (followed_at machine others at process) (counted_at machine others at process) runs run → run.follows ≡ true →
           TellsNumber kept phase process run.number None → OwnLast (counted_at machine others at process) behind
-      follow-none coded (Rests none number taken) yes tells = absurd (omega (arith, amid, taken))
-      follow-none coded (Owns before own are going number taken follows own_so) yes tells = absurd (true≢false (sym yes ∙ follows))
-      follow-none coded (Follows before own are going number taken follows goes_so) yes tells =
+      follow-none coded (Rests none number taken) on tells = absurd (omega (arith, amid, taken))
+      follow-none coded (Owns before own are going number taken follows own_so) on tells = absurd (true≢false (sym on ∙ follows))
+      follow-none coded (Follows before own are going number taken follows goes_so) on tells =
           counts-none coded before (run_behind machine at.state process own) (behind-on serve.steps serve.runs machine at here.comes process before own are going) number tells
 
       pub goes-none : HasCode table process → run.follows ≡ true → TellsNumber kept phase process run.number None → OwnLast (counted_at machine others at process) behind
-      goes-none coded yes tells = follow-none coded so-far yes tells
+      goes-none coded on tells = follow-none coded so-far on tells
 
       follow-some : HasCode table process → IsRunSoFar (followed_at machine others at process) (counted_at machine others at process) runs run → run.follows ≡ true → (found : RunEnd) →
           TellsNumber kept phase process run.number (Some found) → RunHere machine others at process run found
-      follow-some coded (Rests none number taken) yes found tells = absurd (omega (arith, amid, taken))
-      follow-some coded (Owns before own are going number taken follows own_so) yes found tells = absurd (true≢false (sym yes ∙ follows))
-      follow-some coded (Follows before own are going number taken follows goes_so) yes found tells =
+      follow-some coded (Rests none number taken) on found tells = absurd (omega (arith, amid, taken))
+      follow-some coded (Owns before own are going number taken follows own_so) on found tells = absurd (true≢false (sym on ∙ follows))
+      follow-some coded (Follows before own are going number taken follows goes_so) on found tells =
           let f = found-run coded found tells in
           record {
             good = f.good;
@@ -223,7 +225,7 @@ module _ (serve : Serve) (machine : Machine) (others : List Phase) (at : Moment)
           }
 
       pub goes-on : HasCode table process → run.follows ≡ true → (found : RunEnd) → TellsNumber kept phase process run.number (Some found) → RunHere machine others at process run found
-      goes-on coded yes found tells = follow-some coded so-far yes found tells
+      goes-on coded on found tells = follow-some coded so-far on found tells
 
     -- Behind the step
 
@@ -237,8 +239,7 @@ module _ (serve : Serve) (machine : Machine) (others : List Phase) (at : Moment)
         IsKnownStep machine at.state process line act next × ((code : Code) → IsCodeAt machine.design process code → IsStateOf code next) × FollowsOn (followed_at machine others at process) behind run
     known-here found r line act next is =
         let k = serve.known.known machine at.state process r.run r.good found line act next r.tells r.in_run r.follows
-        (subst (λ (n : ℕ). IsKnownAt at.state.values found n line act next) (sym r.taken) is) in
-        (
+        (subst (λ (n : ℕ). IsKnownAt at.state.values found n line act next) (sym r.taken) is) in (
           k.0,
           k.1,
           record {
@@ -267,3 +268,29 @@ reads-there serve machine others at process run found r limit objects same below
     (subst (λ (o : Option ℕ). IfSome o (λ object. object < objects))
     (sym (ap read_told (serve.known.acts machine at.state process r.run r.good found one r.tells r.in_run r.follows (subst (λ (n : ℕ). slice_get found.steps n ≡ Some one) (sym r.taken) there))
     ∙ read-of at.state.time (step_of machine at.state process).action)) below)
+
+-- there are as many processes as the design has
+pub low-here : (machine : Machine) (at : Moment) (table : ProcessTable) (phase process : ℕ) → IsKept table → IsNextHere machine at table phase process → process < length (table_of table).processes
+low-here machine at table phase process arranged here =
+    subst (λ (n : ℕ). process < n) (sym (table-count table arranged ∙ ap (λ (d : FlatDesign). length d.processes) here.table_is.design)) here.there
+
+-- whichever run is found
+pub follow-found : {A : Type 0} (now : A → RunEnd) (serve : Serve) (leads : PresentRunsLead) (kept : RunsBeside) (table : ProcessTable) (phase process : ℕ) (run : RunSoFar) →
+    run ≡ run_at phase kept.runs.items process → 0 < run.taken → HasCode table process → run.follows ≡ true → (found : Option A) →
+    TellsNumber kept phase process run.number (option_map now found) → MatchOption found (IsAloneHere kept table phase process) (λ r. IsBesideHere kept table phase process run (now r))
+follow-found now serve leads kept table phase process run is_run amid coded on None tells = λ machine others at ticked goes here.
+    goes-none serve machine others at ticked kept goes table phase process here run is_run leads amid coded on tells
+follow-found now serve leads kept table phase process run is_run amid coded on (Some r) tells = λ machine others at ticked goes here.
+    goes-on serve machine others at ticked kept goes table phase process here run is_run leads amid coded on (now r) tells
+
+-- whether its step is known or not
+pub match-known : (serve : Serve) (kept : RunsBeside) (table : ProcessTable) (nets : NetState) (phase process : ℕ) (run : RunSoFar) → run ≡ run_at phase kept.runs.items process →
+    (found : RunEnd) → IsBesideHere kept table phase process run found → (result : Option KnownStep) →
+    MatchOption result (PartsAt (values_in nets) found run.taken) (λ known. IsKnownAt (values_in nets) found run.taken known.line known.act known.next.now) →
+    MatchOption result (IsOwnHere kept table nets phase process) (λ known. IsKnownHere kept table nets phase process run known)
+match-known serve kept table nets phase process run is_run found beside None parts = λ machine others at ticked goes here values.
+    parts-own serve machine others at ticked kept goes table phase process here run is_run found (beside machine others at ticked goes here)
+    (subst (λ v. PartsAt v found run.taken) (sym values) parts)
+match-known serve kept table nets phase process run is_run found beside (Some known) is = λ machine others at ticked goes here values.
+    known-here serve machine others at ticked kept goes table phase process here run is_run found (beside machine others at ticked goes here) known.line known.act known.next.now
+    (subst (λ v. IsKnownAt v found run.taken known.line known.act known.next.now) (sym values) is)
