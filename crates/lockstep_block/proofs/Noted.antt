@@ -58,4 +58,4 @@ more-taken f xs place x low is = ap (map f) (take_more xs place x low ∙ ap (λ
 
 -- or all
 pub all-taken : {A B : Type 0} (f : A → B) (xs : List A) (place : ℕ) → length xs ≤ place → map f (take place xs) ≡ map f xs
-all-taken f xs place past = ap (map f) (take_all xs place past)
+all-taken f xs place past = ap (map f) (take_all place xs past)
