@@ -81,7 +81,7 @@ module _ (laws : KnownStepsGoOn) (machine : Machine) (state : State) (p : ℕ) (
       starts-other fails = laws.other good (run_behind machine state p run) (λ same.
           let law = laws.first machine state p good found one tells first tells.code tells.is_code in
           let holds : IsTrue result = (equal tells.code tells.is_code (places-differ machine.design p tells.code rules tells.is_code) law.1).1 (begun machine state p run in_run none ∙ sym same ∙ sym law.0) in
-          absurd (subst IsTrue fails holds))
+          (let clash : true ≡ false = sym holds ∙ fails in cc))
 
 -- the first of some steps
 pub first-at : (steps : List StepTaken) (one : StepTaken) → (steps ≡ [] → ⊥) → one ≡ get_or steps 0 one → slice_get steps 0 ≡ Some one

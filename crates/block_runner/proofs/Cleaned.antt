@@ -3,7 +3,6 @@ use Rattle.std.proofs.Common.{◌≡◌, ◌∙◌, ℕ, zero, suc, ◌≤◌, B
 use Rattle.std.specs.Prelude.{◌≢◌, set}
 use Rattle.std.proofs.lemmas.Bool.{eqb-true, eqb-false}
 use Rattle.std.proofs.lemmas.List.{get_or-set_other, get_or_past, map-append}
-use Rattle.graph_order.specs.ListLaws.{has-append}
 use Rattle.vf_base.specs.Base.{process_number}
 use Rattle.vf_base.specs.Lists.{has}
 use Rattle.vf_base.specs.declared.ids.ProcId.{ProcId}
@@ -13,6 +12,14 @@ use Rattle.block_runner.specs.Beside.{AreClean, fresh, row_at}
 or-none : (a b : Bool) → (a || b) ≡ false → (a ≡ false) × (b ≡ false)
 or-none true b e = absurd (cc)
 or-none false b e = (refl, e)
+
+has-append : (xs ys : List ℕ) (n : ℕ) → has (xs ++ ys) n ≡ (has xs n || has ys n)
+has-append [] ys n = refl
+has-append (x ∷ xs) ys n = ap (λ (b : Bool). nat_eq x n || b) (has-append xs ys n) ∙ or-joined (nat_eq x n) (has xs n) (has ys n)
+  where
+    or-joined : (a b c : Bool) → (a || (b || c)) ≡ ((a || b) || c)
+    or-joined true b c = refl
+    or-joined false b c = refl
 
 -- of one process more something may be kept
 pub clean-put : (rows : List ProcessBeside) (stepped : List ProcId) (process : ProcId) (row : ProcessBeside) → AreClean rows stepped →

@@ -42,7 +42,10 @@ impl Model for ProcessesBeside {
 }
 
 /// Of no process anything is kept.
-const FRESH: ProcessBeside = ProcessBeside { ended: 0, going: None };
+const FRESH: ProcessBeside = ProcessBeside {
+    ended: 0,
+    going: None,
+};
 
 /// Of some processes nothing is kept any more.
 fn clear_rows(rows: &mut Vec<ProcessBeside>, stepped: &[ProcId])
