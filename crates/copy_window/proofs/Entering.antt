@@ -95,11 +95,13 @@ is-room design fault faulty old new entered stays = record {
 
 -- the counter of a fault that was graded through a window
 pub settled-ticks : (design : FlatDesign) (plan : TestPlan) (before through : ℕ) (strobes : WindowStrobes) (beside : RunBeside) (m : Simulated) (own : ShardFault) (fault : StuckAt) (kept : Bool)
-    (old new : ℕ) (of : CanSettle design plan before through strobes beside m own) → slice_get plan.faults own.copy.fault ≡ Some fault → kept_by own ≡ kept →
-    RiseAtMostOwn design (plan_by (kept_by own) plan) before through (of.fault ∷ []) old new → RiseAtMostOwn design (plan_by kept plan) before through (fault ∷ []) old new
-settled-ticks design plan before through strobes beside m own fault kept old new of listed kind ticks =
+    (old new : ℕ) →
+    ((at : ℕ) (of : CanSettle design plan at through strobes beside m own) → RiseAtMostOwn design (plan_by (kept_by own) plan) at through (of.fault ∷ []) old new) →
+    CanSettle design plan before through strobes beside m own → slice_get plan.faults own.copy.fault ≡ Some fault → kept_by own ≡ kept →
+    RiseAtMostOwn design (plan_by kept plan) before through (fault ∷ []) old new
+settled-ticks design plan before through strobes beside m own fault kept old new ticks of listed kind =
     subst (λ (f : StuckAt). RiseAtMostOwn design (plan_by kept plan) before through (f ∷ []) old new) (some-is of.fault fault (sym of.listed ∙ listed))
-    (subst (λ (k : Bool). RiseAtMostOwn design (plan_by k plan) before through (of.fault ∷ []) old new) kind ticks)
+    (subst (λ (k : Bool). RiseAtMostOwn design (plan_by k plan) before through (of.fault ∷ []) old new) kind (ticks before of))
   where
     some-is : (one other : StuckAt) → Some one ≡ Some other → one ≡ other
     some-is one other e = cc

@@ -123,18 +123,20 @@ ahead-fine law machine end now begins rules a early fine =
     let total : steps_by machine begins.time + steps_through machine n.rest ≡ steps_by machine end =
     total-ahead law machine end begins.time n.rest rules early n.after (left begins.time (omega arith)) in
     let before : steps_up_to machine now + steps_through machine (slot ∷ n.rest) ≡ steps_by machine end = n.total in
-    let first : steps_through machine (slot ∷ n.rest) ≡ process_steps slot + steps_through machine n.rest = steps-fine machine slot n.rest fine in
-    (record {
-      slots = n.rest;
-      follow = n.follow;
-      rise = n.rise;
-      later = n.after;
-      total = total;
-      left = left;
-      behind = n.behind ++ slot ∷ [];
-      parts = n.parts ∙ sym (append_assoc n.behind (slot ∷ []) n.rest);
-      by_now = all-push now begins.time n.behind slot (after-since now begins.time begins.time n.since (omega arith)) n.by_now refl;
-    }, omega (arith, total, before, first))
+    let first : steps_through machine (slot ∷ n.rest) ≡ process_steps slot + steps_through machine n.rest = steps-fine machine slot n.rest fine in (
+      record {
+        slots = n.rest;
+        follow = n.follow;
+        rise = n.rise;
+        later = n.after;
+        total = total;
+        left = left;
+        behind = n.behind ++ slot ∷ [];
+        parts = n.parts ∙ sym (append_assoc n.behind (slot ∷ []) n.rest);
+        by_now = all-push now begins.time n.behind slot (after-since now begins.time begins.time n.since (omega arith)) n.by_now refl;
+      },
+      omega (arith, total, before, first),
+    )
 
 ahead-stops : (machine : Machine) (end : ℕ) (now : Option ℕ) (begins : State) → SlotsAhead machine end now (Some begins) → slot_outcome machine (slot_from machine begins) ≢ Fine →
     steps_up_to machine now + process_steps (slot_from machine begins) ≡ steps_by machine end

@@ -55,18 +55,18 @@ strobes-preserved g c = record {
   kind = c.in_ok-end.ensures.kind ∙ c.strobes.invariant.kind;
   stays = λ of. stays-more _ _ _ (c.strobes.invariant.stays of) c.in_ok-end.ensures.stays;
   way = λ of.
-    way-on c.own_steps_rise.ensures of.design of.plan of.fault (keeps (said_of c.args.strobed.now)) of.later c.args.until c.strobes.sample-index c.args.samples.now c.args.beside.now of.now c.args.steps.now c.strobes.steps c.strobes.machine
-    (said_of c.strobes.strobed) (c.strobes.invariant.way of) c.sample-item.result c.strobes-test.true c.sample-item.is
-    c.pass_strobe.new.steps c.pass_strobe.new.machine (said_of c.pass_strobe.new.strobed)
-    (subst (λ end. GradingLeads of.design of.plan of.fault c.sample-item.result.time (map sample_of (drop (c.strobes.sample-index + 1) c.args.samples.now)) of.later end c.pass_strobe.new.machine
-    (said_of c.pass_strobe.new.strobed)) c.in_default.is
-    (c.in_ok-end.ensures.grading (can-pass c.own_steps_rise.ensures of.design of.plan of.fault (keeps (said_of c.args.strobed.now)) of.later c.args.until c.strobes.sample-index c.args.samples.now c.args.beside.now of.now c.args.steps.now c.strobes.steps c.strobes.machine
-    (said_of c.strobes.strobed) (c.strobes.invariant.way of) c.sample-item.result c.strobes-test.true c.sample-item.is
-    (map watched_bit c.args.watched.now) of.watched_are)))
-    c.in_ok-end.ensures.kind
-    (c.in_ok-end.ensures.ticks (can-pass c.own_steps_rise.ensures of.design of.plan of.fault (keeps (said_of c.args.strobed.now)) of.later c.args.until c.strobes.sample-index c.args.samples.now c.args.beside.now of.now c.args.steps.now c.strobes.steps c.strobes.machine
-    (said_of c.strobes.strobed) (c.strobes.invariant.way of) c.sample-item.result c.strobes-test.true c.sample-item.is
-    (map watched_bit c.args.watched.now) of.watched_are));
+      way-on c.own_steps_rise.ensures of.design of.plan of.fault (keeps (said_of c.args.strobed.now)) of.later c.args.until c.strobes.sample-index c.args.samples.now c.args.beside.now of.now c.args.steps.now c.strobes.steps c.strobes.machine
+      (said_of c.strobes.strobed) (c.strobes.invariant.way of) c.sample-item.result c.strobes-test.true c.sample-item.is
+      c.pass_strobe.new.steps c.pass_strobe.new.machine (said_of c.pass_strobe.new.strobed)
+      (subst (λ end. GradingLeads of.design of.plan of.fault c.sample-item.result.time (map sample_of (drop (c.strobes.sample-index + 1) c.args.samples.now)) of.later end c.pass_strobe.new.machine
+      (said_of c.pass_strobe.new.strobed)) c.in_default.is
+      (c.in_ok-end.ensures.grading (can-pass c.own_steps_rise.ensures of.design of.plan of.fault (keeps (said_of c.args.strobed.now)) of.later c.args.until c.strobes.sample-index c.args.samples.now c.args.beside.now of.now c.args.steps.now c.strobes.steps c.strobes.machine
+      (said_of c.strobes.strobed) (c.strobes.invariant.way of) c.sample-item.result c.strobes-test.true c.sample-item.is
+      (map watched_bit c.args.watched.now) of.watched_are)))
+      c.in_ok-end.ensures.kind
+      (c.in_ok-end.ensures.ticks (can-pass c.own_steps_rise.ensures of.design of.plan of.fault (keeps (said_of c.args.strobed.now)) of.later c.args.until c.strobes.sample-index c.args.samples.now c.args.beside.now of.now c.args.steps.now c.strobes.steps c.strobes.machine
+      (said_of c.strobes.strobed) (c.strobes.invariant.way of) c.sample-item.result c.strobes-test.true c.sample-item.is
+      (map watched_bit c.args.watched.now) of.watched_are));
 }
 
 pub run_to-requires : goal.run_to-requires
