@@ -6,8 +6,8 @@ use Rattle.v_design.specs.Designs.{FlatDesign, Machine, StuckAt, TestPlan, good_
 use Rattle.v_design.specs.Grades.{Phase, cut, phases}
 use Rattle.v_design.specs.OwnSteps.{StepSeen, runs_of, steps_in}
 use Rattle.v_design.specs.Processes.{Activity}
-use Rattle.v_design.specs.Runs.{FirstSlot, Move, Happens, Turns, happened, made, work_of}
-use Rattle.v_design.specs.States.{State, NodeState, Event, TurnKind, after, turn_of}
+use Rattle.v_design.specs.Runs.{FirstSlot, Move, Happens, Turns, happened, work_of}
+use Rattle.v_design.specs.States.{State, NodeState, Event, TurnKind, after}
 use Rattle.machine_laws.specs.SlotLoop.{Moment, ComesTo, NoNodeWorks, present_phase, first_moment, after_events, after_turn}
 use Rattle.block_filter.specs.Blocks.{BlockPair}
 use Rattle.copy_laws.specs.OwnRuns.{last_goes_on}
@@ -26,7 +26,7 @@ use Rattle.lockstep_index.specs.Writes.{WritesPass}
 use Rattle.lockstep_laws.specs.Lockstep.{LockstepIsBeside}
 use Rattle.lockstep_laws.specs.Passing.{AreFree}
 use Rattle.lockstep_laws.specs.Phases.{IsInPhase}
-use Rattle.lockstep_block.specs.Blocks.{IsPhaseBeside, passed_phase}
+use Rattle.lockstep_block.specs.Blocks.{passed_phase}
 use Rattle.lockstep_block.specs.lockstep_slots.Kept.{LockstepKept, kept_within}
 use Rattle.lockstep_block.specs.lockstep_slots.Places.{Place, behind_events, first_place, moment_there, next_phase, state_there}
 use Rattle.lockstep_block.specs.lockstep_steps.Going.{IsGoing}

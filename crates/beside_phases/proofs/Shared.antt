@@ -10,7 +10,6 @@ use Rattle.v_design.specs.Designs.{FlatDesign, Machine, StuckAt, good_machine, f
 use Rattle.v_design.specs.OwnSteps.{StepSeen, seen_if, seen_step, steps_in, value_read}
 use Rattle.v_design.specs.PhaseLogs.{is_step_of}
 use Rattle.v_design.specs.Processes.{Activity, Action, ReadsObject, WritesObject, AppendsUpdate, TouchesNothing, ProcessStep}
-use Rattle.v_design.specs.Runs.{happened}
 use Rattle.v_design.specs.States.{State, ProcessState, Event, Step, LaneStep, Evaluation, NetUpdate, after, found_or, process_at, step_of}
 use Rattle.v_design.specs.WellFormed.{KeepsRules}
 use Rattle.copy_laws.specs.Beside.{AreFirst}
@@ -94,5 +93,6 @@ module _ (design : FlatDesign) (fault : StuckAt) (values : ℕ → Option LogicV
       let on = pass design fault values writes good faulty (event ∷ []) rules lockstep good_in own_in (first.0, tt) (free.0, tt) (acts.0, tt) in
       one-same good faulty event p (steps_in good_of p (after good_of good event) events) lockstep (free.0, tt) acts.0
       ∙ ap (seen_if (is_step_of p event) ((process_at faulty p).activity, seen_step faulty_of faulty p))
-      (steps-same pass rules (after good_of good event) (after faulty_of faulty event) events on.lockstep (in-phase-on good_of good event good_in) (in-phase-on faulty_of faulty event own_in) first.1 free.1
+      (steps-same pass rules (after good_of good event) (after faulty_of faulty event) events on.lockstep (in-phase-on good_of good event good_in) (in-phase-on faulty_of faulty event
+      own_in) first.1 free.1
       acts.1 p)

@@ -1,7 +1,7 @@
 //! A faulty machine's phase beside the good machine's, as the slot goes on in lockstep (phases and blocks by IEEE 1364-2001, clause 5; process steps by clause 9).
 //!
-//! Beside each place of a slot stand the steps that the faulty machine took itself so far, and how many runs of each process ended in its phase. Where a slot begins there are none; a stretch that both
-//! machines pass over adds none, since each process takes the same steps in both; and a turn begins a phase in which no run has ended yet (`own_steps_go_on`).
+//! Beside each place of a slot stand the steps that the faulty machine took itself so far, and how many runs of each process ended in its phase. Where a slot begins there are none; a stretch that
+//! both machines pass over adds none, since each process takes the same steps in both; and a turn begins a phase in which no run has ended yet (`own_steps_go_on`).
 #![tactic(auto)]
 
 ghost use Rattle.beside_phases.specs.Laws.{OwnStepsGoOn};

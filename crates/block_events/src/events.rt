@@ -21,7 +21,9 @@ use crate::runner::Runner;
 use block_told::{BlockTold, note_step};
 use machine_events::{follow_alone, lane_alone, node_alone, step_alone};
 use process_code::{ProcState, StepAct};
+use process_table::Act;
 use std::sync::ledger::Ledger;
+use v_design::Due;
 use vf_base::{NoMemory, NodeId, ProcId, Steps};
 
 /// A step that a process took: the line of its statement, what it did, and where the process stands behind it.
@@ -122,7 +124,7 @@ impl<'d> Runner<'d> {
     }
 
     /// The least ready process takes a step that is known, where no node has work and no lane has an update: it does what the step does, and stands then at a state, which may be one of any code of
-    /// the process. Its code isn't run. Each process is still to write objects of the design alone, and so it is behind the step (`race_laws::writes_stay`).
+    /// the process. Its code isn't run. It answers the line of the step's statement. Each process is still to write objects of the design alone, and so it is behind the step (`race_laws::writes_stay`).
     ///
     /// # Errors
     ///
@@ -134,7 +136,7 @@ impl<'d> Runner<'d> {
         line: u32,
         act: StepAct,
         next: &ProcState,
-    ) -> Result<(), NoMemory>
+    ) -> Result<u32, NoMemory>
         requires whole { IsWhole self.old }
         requires nodes { NoNodeWorks (state_of self.old) }
         requires lanes { first_lane (state_of self.old) ≡ None }
@@ -149,7 +151,7 @@ impl<'d> Runner<'d> {
         machine_laws::phases_go_on();
         copy_laws::moves();
         race_laws::writes_stay();
-        follow_alone(
+        let followed = follow_alone(
             &mut self.nets,
             &mut self.table,
             &mut self.told,
@@ -158,11 +160,14 @@ impl<'d> Runner<'d> {
             act,
             next,
         )?;
+        // Named, since what checks borrows here has to be told of the types of a step's parts.
+        let _done: Option<Act> = followed.act;
+        let _later: Option<Due> = followed.later;
         let ready = self.table.is_ready(process);
         let first = note_step(&mut self.running, process, ready)?;
         told.count_step(process, first)?;
         told.add_step(&self.told)?;
-        Ok(())
+        Ok(followed.line)
     }
 
     /// The least lane's first update is written, where no node has work. It is the first event of the block. It answers the line of its statement. Each process is still to

@@ -145,6 +145,10 @@ module _ (lead : PresentRunsLead) (machine : Machine) (begins : State) (kept : G
 
 -- Blocks without steps of processes
 
+-- no block but one that a lane begins is said to have one
+pub no_lane-one : (state : State) (steps : ℕ) → first_lane state ≡ None → IsSome (first_lane state) → steps ≡ 1
+no_lane-one state steps none some = let not : false ≡ true = subst IsSome none some in absurd (cc)
+
 nothing-more : {A : Type 0} (xs : List A) → drop (length xs) xs ≡ []
 nothing-more xs = behind-old xs xs [] (sym (append-nil xs))
 

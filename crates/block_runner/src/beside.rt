@@ -179,9 +179,9 @@ fn take_next<L: Ledger>(
 {
     match known {
         Some(step) => {
-            runner.follow_step(process, told, step.line, step.act, step.next)?;
+            let line = runner.follow_step(process, told, step.line, step.act, step.next)?;
             Ok(Took {
-                line: step.line,
+                line,
                 follows: true,
             })
         }

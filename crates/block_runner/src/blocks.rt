@@ -77,6 +77,7 @@ fn run_of<L: Ledger>(
     ensures tried { OnOk result (TicksTried tried.old.items tried.new.items steps.old steps.new) }
 {
     race_laws::writes_stay();
+    present_runs::present_runs_lead();
     runner.begin_block();
     'runs: for taken in 0..u64::from(most) + 1 {
         let Some(process) = runner.first_ready() else {

@@ -32,7 +32,7 @@ use Rattle.lockstep_due.specs.window_strobes.Neighbours.{time-between, time-by}
 use Rattle.lockstep_due.specs.machine.Standing.{BeginsInFirstRun, StandsBetween, slot_after}
 use Rattle.lockstep_due.specs.copy_window.Copies.{differences_in}
 use Rattle.lockstep_due.specs.copy_window.ShardFaults.{kept_by, said_by}
-use Rattle.lockstep_due.specs.copy_window.Tried.{WasTried}
+use Rattle.window_beside.specs.Tried.{WasTried}
 use Rattle.lockstep_due.specs.copy_window.declared.fault.ShardFault.{ShardFault}
 use Rattle.lockstep_slot.specs.lockstep_block.Blocks.{TriedInSlot}
 use Rattle.lockstep_slot.specs.slot_laws.Copies.{MayBeginSlot, lockstep_differences}

@@ -1,19 +1,20 @@
 -- The own steps of a shard's faults through a window (steps by IEEE 1364-2001, clause 9; slots by clause 5).
-use Rattle.std.proofs.Common.{◌≡◌, ℕ, zero, suc, ◌+◌, ◌≤◌, Bool, true, false, List, [], ◌∷◌, ◌++◌, map, refl, sym, ap, subst, ◌∙◌, arith}
+use Rattle.std.proofs.Common.{◌≡◌, ℕ, zero, suc, ◌+◌, ◌≤◌, Bool, true, false, List, [], ◌∷◌, ◌++◌, map, refl, sym, ap, subst, ◌∙◌, inl, inr, arith}
+use Rattle.std.proofs.lemmas.Bool.{true≢false}
 use Rattle.std.specs.Prelude.{Option, Some, None, is_some, option_map, slice_get, sum_by}
 use Rattle.std.specs.List.{AllZip, cons_option, filter_map, sum}
 use Rattle.std.proofs.lemmas.List.Sums.{sum_by-append, sum_by-cons}
-use Rattle.vf_base.specs.Lists.{AllHold, joined}
+use Rattle.vf_base.specs.Lists.{AllHold}
 use Rattle.vf_base.specs.declared.finding.End.{End}
 use Rattle.v_design.specs.Designs.{FlatDesign, StuckAt, TestPlan}
-use Rattle.v_design.specs.OwnSteps.{CountsOwn}
 use Rattle.v_design.specs.Plain.{grade_of}
+use Rattle.v_design.specs.Runs.{FirstSlot}
 use Rattle.v_design.specs.WellFormed.{KeepsRules}
 use Rattle.copy_laws.specs.Windows.{HasEnded, RiseAtMostOwn, good_slots, runs_between, time_at}
-use Rattle.own_gradings.specs.Laws.{OwnStepsRise}
+use Rattle.own_gradings.specs.Laws.{GoOn, OwnStepsRise}
 use Rattle.own_gradings.specs.Numbers.{OwnStepsOf, RisesOwn}
-use Rattle.own_gradings.proofs.Counts.{Pairs, Parted, parts}
 use Rattle.shard_windows.specs.graded_steps.Behind.{RisesWithin}
+use Rattle.shard_windows.specs.window_strobes.Neighbours.{time-by}
 use Rattle.shard_windows.specs.copy_window.ShardFaults.{kept_by}
 use Rattle.shard_windows.specs.copy_window.declared.fault.ShardFault.{ShardFault}
 use Rattle.shard_windows.specs.window_faults.Steps.{steps_of_fault, steps_of_faults}
@@ -36,14 +37,14 @@ module _ {design : FlatDesign} {plan : TestPlan} (tally : OwnStepsOf design plan
       omega (arith, one, rest, a, b)
 
   -- they are of the places alone
+  of-places : (gone : ℕ) (faults : List FaultKept) → sum_by (λ (number : ℕ). tally.steps number false gone) (places_of faults) ≡ sum_by (kept_steps tally gone) faults
+  of-places gone [] = refl
+  of-places gone (kept ∷ faults) =
+      sum_by-cons (λ (number : ℕ). tally.steps number false gone) kept.copy.fault (places_of faults)
+      ∙ (ap (λ n. kept_steps tally gone kept + n) (of-places gone faults) ∙ sym (sum_by-cons (kept_steps tally gone) kept faults))
+
   pub same-sums : (gone : ℕ) (olds news : List FaultKept) → places_of news ≡ places_of olds → sum_by (kept_steps tally gone) news ≡ sum_by (kept_steps tally gone) olds
-  same-sums gone olds news same = sym (of-places gone news) ∙ ap (sum_by (λ (number : ℕ). tally.steps number false gone)) same ∙ of-places gone olds
-    where
-      of-places : (gone : ℕ) (faults : List FaultKept) → sum_by (λ (number : ℕ). tally.steps number false gone) (places_of faults) ≡ sum_by (kept_steps tally gone) faults
-      of-places gone [] = refl
-      of-places gone (kept ∷ faults) =
-          sum_by-cons (λ (number : ℕ). tally.steps number false gone) kept.copy.fault (places_of faults)
-          ∙ (ap (λ n. kept_steps tally gone kept + n) (of-places gone faults) ∙ sym (sum_by-cons (kept_steps tally gone) kept faults))
+  same-sums gone olds news same = sym (of-places gone news) ∙ (ap (sum_by (λ (number : ℕ). tally.steps number false gone)) same ∙ of-places gone olds)
 
   -- a shard goes through a window
   pub shard-rises : (gone before through ends : ℕ) (kept : ShardKept) (faults old new : List ShardFault) (one other : ℕ) → record { gone = gone; faults = map fault_kept faults } ≡ kept →
@@ -71,72 +72,50 @@ all-within law design plan tally gone (kept ∷ faults) all =
 
 -- The faults whose gradings go on
 
-module _ (law : OwnStepsRise) (design : FlatDesign) (plan : TestPlan) (rules : KeepsRules design) (tally : OwnStepsOf design plan) (from until : ℕ) (low : from ≤ until) where
-  abbrev runs-of : StuckAt → Pairs
-  runs-of = runs_between design plan (time_at design plan from) (time_at design plan until)
+-- a time comes behind a slot
+no-time : (design : FlatDesign) (plan : TestPlan) (gone : ℕ) → time_at design plan gone ≡ None → gone ≡ 0
+no-time design plan zero none = refl
+no-time design plan (suc count) none = absurd (some-time (slice_get (good_slots design plan) (suc count)) (slice_get (good_slots design plan) count) none)
+  where
+    some-time : (next last : Option FirstSlot) → time-by plan next last ≡ None → ⊥
+    some-time None last e = cc
+    some-time (Some later) None e = cc
+    some-time (Some later) (Some slot) e = cc
 
+module _ (law : OwnStepsRise) (design : FlatDesign) (plan : TestPlan) (rules : KeepsRules design) (tally : OwnStepsOf design plan) (from until : ℕ) (low : from ≤ until) where
   -- one whose grading ended takes no more
   ended-steps : (kept : FaultKept) (end : End) → kept.end ≡ Some end → FaultStands design plan from kept → kept_steps tally until kept ≡ kept_steps tally from kept
   ended-steps kept end is stands = go (time_at design plan from) refl
     where
-      found : option_map grade_of kept.end ≡ Some (grade_of end)
-      found = ap (option_map grade_of) is
-
       some : is_some (option_map grade_of kept.end) ≡ true
-      some = ap is_some found
-
-      none-past : (gone : ℕ) → time_at design plan gone ≡ None → gone ≡ 0
-      none-past zero none = refl
-      none-past (suc count) none = absurd (no-time (slice_get (good_slots design plan) (suc count)) (slice_get (good_slots design plan) count) none)
-        where
-          no-time : (next last : Option _) → elim next as (λ _. Option ℕ) [ None ↦ Some plan.end | Some later ↦ elim last as (λ _. Option ℕ) [ None ↦ Some plan.end | Some slot ↦ Some slot.begins.time ] ] ≡ None → ⊥
-          no-time None last e = cc
-          no-time (Some later) None e = cc
-          no-time (Some later) (Some slot) e = cc
+      some = ap (λ (e : Option End). is_some (option_map grade_of e)) is
 
       go : (time : Option ℕ) → time_at design plan from ≡ time → kept_steps tally until kept ≡ kept_steps tally from kept
-      go None none = (let start = stands.beside.none_before (none-past from none) in let no : Some (grade_of end) ≡ None = sym found ∙ start in absurd (let e : ⊥ = cc in e))
+      go None none =
+          let start = stands.beside.none_before (no-time design plan from none) in
+          let unsaid : is_some (option_map grade_of kept.end) ≡ false = ap is_some start in
+          absurd (true≢false (sym some ∙ unsaid))
       go (Some time) at =
           law.over design plan tally kept.copy.fault stands.fault false from until time stands.listed rules low at ((stands.beside.found_where time at).0 some)
 
-  pub open-rises : (faults : List FaultKept) → AllHold (FaultStands design plan from) faults → (counts : List ℕ) → AllZip CountsOwn (joined (map runs-of (open_in plan faults))) counts →
-      sum_by (kept_steps tally until) faults ≤ sum_by (kept_steps tally from) faults + sum counts
-  open-rises [] all counts zip = omega arith
-  open-rises (kept ∷ faults) all counts zip = go kept.end refl zip (λ rest each. open-rises faults all.1 rest each)
+  -- so these are those that go on
+  pub open-go-on : (faults : List FaultKept) → AllHold (FaultStands design plan from) faults → GoOn design plan tally false from until (places_of faults) (open_in plan faults)
+  open-go-on [] all = tt
+  open-go-on (kept ∷ faults) all = go kept.end refl (open-go-on faults all.1)
     where
-      a : sum_by (kept_steps tally until) (kept ∷ faults) ≡ kept_steps tally until kept + sum_by (kept_steps tally until) faults
-      a = sum_by-cons (kept_steps tally until) kept faults
-
-      b : sum_by (kept_steps tally from) (kept ∷ faults) ≡ kept_steps tally from kept + sum_by (kept_steps tally from) faults
-      b = sum_by-cons (kept_steps tally from) kept faults
-
-      abbrev rest-in : List StuckAt
-      rest-in = open_in plan faults
-
-      go : (end : Option End) → kept.end ≡ end → AllZip CountsOwn (joined (map runs-of (open_in plan (kept ∷ faults)))) counts →
-          ((rest : List ℕ) → AllZip CountsOwn (joined (map runs-of rest-in)) rest → sum_by (kept_steps tally until) faults ≤ sum_by (kept_steps tally from) faults + sum rest) →
-          sum_by (kept_steps tally until) (kept ∷ faults) ≤ sum_by (kept_steps tally from) (kept ∷ faults) + sum counts
-      go None is each more =
+      go : (end : Option End) → kept.end ≡ end → GoOn design plan tally false from until (places_of faults) (open_in plan faults) →
+          GoOn design plan tally false from until (places_of (kept ∷ faults)) (open_in plan (kept ∷ faults))
+      go None is rest =
           let found : open_fault plan kept ≡ Some all.0.fault =
           ap (λ (e : Option End). elim e as (λ _. Option StuckAt) [ None ↦ slice_get plan.faults kept.copy.fault | Some end ↦ None ]) is ∙ all.0.listed in
-          let here : AllZip CountsOwn (runs-of all.0.fault ++ joined (map runs-of rest-in)) counts =
-          subst (λ (o : Option StuckAt). AllZip CountsOwn (joined (map runs-of (cons_option o rest-in))) counts) found each in
-          let cut : Parted (runs-of all.0.fault) (joined (map runs-of rest-in)) (sum counts) =
-          parts (runs-of all.0.fault) (joined (map runs-of rest-in)) (sum counts) (record { counts = counts; each = here; total = refl }) in
-          let one : kept_steps tally until kept ≡ kept_steps tally from kept + sum cut.first.counts =
-          law.between design plan tally kept.copy.fault all.0.fault false from until cut.first.counts all.0.listed rules low cut.first.each in
-          let others = more cut.rest.counts cut.rest.each in
-          let total = cut.total in
-          let left = cut.first.total in
-          let right = cut.rest.total in
-          omega (arith, a, b, one, others, total, left, right)
-      go (Some end) is each more =
+          inr (all.0.fault, open_in plan faults, ap (λ (o : Option StuckAt). cons_option o (open_in plan faults)) found, all.0.listed, rest)
+      go (Some end) is rest =
           let found : open_fault plan kept ≡ None =
           ap (λ (e : Option End). elim e as (λ _. Option StuckAt) [ None ↦ slice_get plan.faults kept.copy.fault | Some ended ↦ None ]) is in
-          let here : AllZip CountsOwn (joined (map runs-of rest-in)) counts = subst (λ (o : Option StuckAt). AllZip CountsOwn (joined (map runs-of (cons_option o rest-in))) counts) found each in
-          let one : kept_steps tally until kept ≡ kept_steps tally from kept = ended-steps kept end is all.0 in
-          let others = more counts here in
-          omega (arith, a, b, one, others)
+          inl (
+            ended-steps kept end is all.0,
+            subst (λ (l : List StuckAt). GoOn design plan tally false from until (places_of faults) l) (sym (ap (λ (o : Option StuckAt). cons_option o (open_in plan faults)) found)) rest,
+          )
 
 -- so a shard's counter rises by no more than their own steps
 pub rises-open : OwnStepsRise → (design : FlatDesign) (plan : TestPlan) → KeepsRules design → (old new : ShardKept) (before after : ℕ) → old.gone ≤ new.gone →
@@ -147,5 +126,8 @@ rises-open law design plan rules old new before after low stand places rises cou
     law.exist design plan after (before + sum counts)
     (λ tally. let most = rises tally in
     let same = same-sums tally new.gone old.faults new.faults places in
-    let more = open-rises law design plan rules tally old.gone new.gone low old.faults stand counts each in
-    omega (arith, most, same, more))
+    let more = law.go_on design plan tally false old.gone new.gone (places_of old.faults) (open_in plan old.faults) counts rules low
+    (open-go-on law design plan rules tally old.gone new.gone low old.faults stand) each in
+    let here = of-places tally old.gone old.faults in
+    let there = of-places tally new.gone old.faults in
+    omega (arith, most, same, more, here, there))

@@ -7,7 +7,7 @@ use Rattle.v_design.specs.OwnSteps.{good_steps}
 use Rattle.copy_laws.specs.Windows.{IsWindow, WindowEnd, good_slots}
 use Rattle.good_trace.specs.Traces.{WindowKept}
 use Rattle.good_windows.specs.Next.{AllStand, IsNextWindow, LoopsBehind, RunKept, steps_of_slots}
-use Rattle.kept_shard.specs.graded_steps.Behind.{RisesWithin}
+use Rattle.own_gradings.specs.Numbers.{OwnStepsOf, RisesOwn}
 use Rattle.kept_shard.specs.machine.Ticks.{process_steps}
 use Rattle.kept_shard.specs.Keeping.{KeepingShard}
 use Rattle.dict_windows.specs.Faults.{all_steps}
@@ -46,22 +46,23 @@ module _ {N : Type 0} (design : FlatDesign) (plan : TestPlan) (gone now : ℕ) w
   pub is-over : (beside : Beside N) → AllStand design plan gone × (now ≡ gone) → StandsBeside design plan gone beside → IsOver design plan beside
   is-over beside g stands = record { stands = subst (λ n. StandsBeside design plan n beside) (sym g.0.all) stands; no_loop = λ time loops. g.0.no_loop time loops }
 
--- Process steps
+-- Steps
 
 module _ (design : FlatDesign) (plan : TestPlan) where
   -- the good machine's of a window, and behind them the faulty machines'
   pub rises-by : (ran later before mid after : ℕ) (shards moved : List KeepingShard) → mid + steps_of_slots design plan ran ≤ before + steps_of_slots design plan later →
-      RisesWithin (all_steps tally shards) (all_steps tally moved) mid after → RisesBeside design plan ran shards before later moved after
-  rises-by ran later before mid after shards moved good faulty = omega (arith, good, faulty)
+      RisesOwn design plan (λ tally. all_steps tally shards) (λ tally. all_steps tally moved) mid after → RisesBeside design plan ran shards before later moved after
+  rises-by ran later before mid after shards moved good faulty tally = (let own = faulty tally in omega (arith, good, own))
 
   -- window after window
   pub rises-more : (one two three before mid after : ℕ) (shards moved further : List KeepingShard) → RisesBeside design plan one shards before two moved mid →
       RisesBeside design plan two moved mid three further after → RisesBeside design plan one shards before three further after
-  rises-more one two three before mid after shards moved further r s = omega (arith, r, s)
+  rises-more one two three before mid after shards moved further r s tally = (let first = r tally in let next = s tally in omega (arith, first, next))
 
   -- in all
-  pub rises-all : (ran later before after most : ℕ) (shards moved : List KeepingShard) → RisesBeside design plan ran shards before later moved after → ran ≡ 0 → all_steps tally moved ≤ most →
-      after ≤ before + (good_steps design plan + 2 * most)
-  rises-all ran later before after most shards moved rises none within =
+  pub rises-all : (tally : OwnStepsOf design plan) (ran later before after most : ℕ) (shards moved : List KeepingShard) → RisesBeside design plan ran shards before later moved after → ran ≡ 0 →
+      all_steps tally moved ≤ most → after ≤ before + (good_steps design plan + most)
+  rises-all tally ran later before after most shards moved rises none within =
       let slots : steps_of_slots design plan later ≤ good_steps design plan = sum_by-take-le process_steps (good_slots design plan) later in
-      omega (arith, rises, slots, within)
+      let own = rises tally in
+      omega (arith, own, slots, within)

@@ -8,6 +8,7 @@ use Rattle.std.proofs.lemmas.List.{get_or-set_other, length-set, take_all}
 use Rattle.std.proofs.lemmas.List.Elements.{AllWithin-from_all, AllWithin-more_set, AllWithin-none}
 use Rattle.std.proofs.lemmas.List.Sums.{sum_by-append, sum_by-cons, sum_by-set}
 use Rattle.v_design.specs.Designs.{FlatDesign, TestPlan}
+use Rattle.own_gradings.specs.Numbers.{OwnStepsOf}
 use Rattle.fault_shards.specs.Cuts.{shard}
 use Rattle.kept_shard.specs.graded_steps.Behind.{RisesWithin}
 use Rattle.kept_shard.specs.Keeping.{KeepingShard, fresh_kept, full_steps_at, kept_steps_of, numbers_of}
@@ -63,11 +64,11 @@ faults-set [] place own d below same = absurd (omega (arith, below))
 faults-set (y ∷ ys) zero own d below same = ap (λ l. l ++ faults_in ys) same
 faults-set (y ∷ ys) (suc place) own d below same = ap (λ l. numbers_of y.kept ++ l) (faults-set ys place own d (omega (arith, below)) same)
 
--- the process steps where one shard goes through a window
-pub steps-set : (design : FlatDesign) (plan : TestPlan) (shards : List KeepingShard) (place : ℕ) (old new : KeepingShard) (from before mid after : ℕ) → place < length shards →
+-- the own steps where one shard goes through a window
+pub steps-set : (design : FlatDesign) (plan : TestPlan) (tally : OwnStepsOf design plan) (shards : List KeepingShard) (place : ℕ) (old new : KeepingShard) (from before mid after : ℕ) → place < length shards →
     old ≡ get_or shards place old → RisesWithin from (all_steps tally shards) before mid →
     RisesWithin (kept_steps_of tally old) (kept_steps_of tally new) mid after → RisesWithin from (all_steps tally (set shards place new)) before after
-steps-set design plan shards place old new from before mid after low read so_far rises =
+steps-set design plan tally shards place old new from before mid after low read so_far rises =
     let sum : all_steps tally (set shards place new) + kept_steps_of tally (get_or shards place old) ≡ all_steps tally shards + kept_steps_of tally new =
     sum_by-set (kept_steps_of tally) shards place new old low in
     let same : kept_steps_of tally old ≡ kept_steps_of tally (get_or shards place old) = ap (kept_steps_of tally) read in
@@ -81,11 +82,11 @@ pub kept-more : (all : List ℕ) (before after : List Kept) (own : KeepingShard)
 kept-more all before after own left so_far is =
     so_far ∙ sym (append_assoc (numbers_of before) (numbers_of own.kept) (faults_in left)) ∙ ap (λ l. l ++ faults_in left) (sym is)
 
-pub steps-more : (design : FlatDesign) (plan : TestPlan) (most : ℕ) (before after : List Kept) (own : KeepingShard) (left : List KeepingShard) →
+pub steps-more : (design : FlatDesign) (plan : TestPlan) (tally : OwnStepsOf design plan) (most : ℕ) (before after : List Kept) (own : KeepingShard) (left : List KeepingShard) →
     most ≤ sum_by (full_steps_at tally) (numbers_of before) + all_steps tally (own ∷ left) →
     kept_steps_of tally own ≤ sum_by (full_steps_at tally) (numbers_of own.kept) → numbers_of after ≡ numbers_of before ++ numbers_of own.kept →
     most ≤ sum_by (full_steps_at tally) (numbers_of after) + all_steps tally left
-steps-more design plan most before after own left so_far within is =
+steps-more design plan tally most before after own left so_far within is =
     let sum : sum_by (full_steps_at tally) (numbers_of after) ≡ sum_by (full_steps_at tally) (numbers_of before) + sum_by (full_steps_at tally) (numbers_of own.kept) =
     ap (sum_by (full_steps_at tally)) is ∙ sum_by-append (full_steps_at tally) (numbers_of before) (numbers_of own.kept) in
     let first : all_steps tally (own ∷ left) ≡ kept_steps_of tally own + all_steps tally left = sum_by-cons (kept_steps_of tally) own left in

@@ -3,6 +3,7 @@ use Rattle.std.specs.Prelude.{◌≡◌, ℕ, List, sum_by}
 use Rattle.std.specs.List.{All, flat_map}
 use Rattle.vf_base.specs.Lists.{AllHold}
 use Rattle.v_design.specs.Designs.{FlatDesign, TestPlan}
+use Rattle.own_gradings.specs.Numbers.{OwnStepsOf}
 use Rattle.kept_samples.specs.declared.kept.Kept.{Kept}
 use Rattle.kept_shard.specs.Keeping.{KeepingShard, KeptWhole, kept_steps_of, numbers_of}
 
@@ -14,8 +15,8 @@ faults_in shards = flat_map (λ (shard : KeepingShard). numbers_of shard.kept) s
 abbrev pub HaveGone : ℕ → List KeepingShard → Type 0
 HaveGone gone shards = All (λ (shard : KeepingShard). shard.gone ≡ gone) shards
 
--- the process steps that the full grades of their faults have taken
-abbrev pub all_steps : FlatDesign → TestPlan → List KeepingShard → ℕ
+-- the own steps that their faults have taken
+abbrev pub all_steps : {design : FlatDesign} {plan : TestPlan} → OwnStepsOf design plan → List KeepingShard → ℕ
 all_steps tally shards = sum_by (kept_steps_of tally) shards
 
 -- of each of some faults the whole full grade is kept

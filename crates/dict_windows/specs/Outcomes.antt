@@ -1,9 +1,11 @@
 -- What all windows of the good first run give (slots and orders by IEEE 1364-2001, clause 5).
-use Rattle.std.specs.Prelude.{◌≡◌, ℕ, ◌+◌, ◌*◌, ◌≤◌, List, is_some, sum_by}
+use Rattle.std.specs.Prelude.{◌≡◌, ℕ, ◌+◌, ◌≤◌, true, List, is_some, sum}
+use Rattle.std.specs.List.{AllZip}
 use Rattle.v_design.specs.Designs.{FlatDesign, TestPlan}
 use Rattle.v_design.specs.OwnSteps.{good_steps}
+use Rattle.own_gradings.specs.Numbers.{TakesOwn}
 use Rattle.kept_samples.specs.Kept.{good_samples, good_stop, samples_kept}
-use Rattle.kept_shard.specs.Keeping.{full_steps_at, numbers_of}
+use Rattle.kept_shard.specs.Keeping.{numbers_of}
 use Rattle.dict_windows.specs.Faults.{AreWhole}
 use Rattle.dict_windows.specs.Windows.{LoopsAt}
 use Rattle.dict_windows.specs.declared.outcome.Gathered.{Gathered}
@@ -23,8 +25,11 @@ abbrev pub IsOutcome : FlatDesign → TestPlan → List ℕ → Outcome → Type
 IsOutcome design plan numbers (Made gathered) = IsGathered design plan numbers gathered
 IsOutcome design plan numbers (GoodLoop time) = LoopsAt design plan time
 
--- where all was kept, a counter rose by no more than the process steps of the good first run and twice all those of the faults of these numbers, each through the end of its full grade, or the
--- plan's end
+-- a counter rose by no more than the process steps of the good first run and all own steps of the faults of these numbers, each through the end of its full grade, or to the plan's end
+pub record RoseByOwn (design : FlatDesign) (plan : TestPlan) (numbers : List ℕ) (before after : ℕ) : Type 0 where
+  pub within : (steps : List ℕ) → AllZip (TakesOwn design plan true) numbers steps → after ≤ before + (good_steps design plan + sum steps)
+
+-- so it rose where all was kept
 abbrev pub OutcomeTicks : FlatDesign → TestPlan → List ℕ → ℕ → ℕ → Outcome → Type 0
-OutcomeTicks design plan numbers before after (Made gathered) = after ≤ before + (good_steps design plan + 2 * sum_by (full_steps_at tally) numbers)
+OutcomeTicks design plan numbers before after (Made gathered) = RoseByOwn design plan numbers before after
 OutcomeTicks design plan numbers before after (GoodLoop time) = Unit {0}

@@ -1,10 +1,11 @@
 -- How the windows of the good first run follow each other (slots by IEEE 1364-2001, clause 5).
-use Rattle.std.specs.Prelude.{◌≡◌, ℕ, ◌+◌, ◌*◌, ◌<◌, ◌≤◌, true, List, length, Option, None, Some}
+use Rattle.std.specs.Prelude.{◌≡◌, ℕ, ◌+◌, ◌<◌, ◌≤◌, true, List, length, Option, None, Some}
 use Rattle.v_design.specs.Designs.{FlatDesign, TestPlan}
 use Rattle.v_design.specs.Grades.{Hyper}
 use Rattle.copy_laws.specs.Windows.{good_slots}
 use Rattle.grade_laws.specs.Grading.{good_stop}
 use Rattle.good_windows.specs.Next.{RunKept, steps_of_slots}
+use Rattle.own_gradings.specs.Numbers.{RisesOwn}
 use Rattle.kept_shard.specs.Keeping.{KeepingShard}
 use Rattle.dict_windows.specs.Good.{IsSeenBehind}
 use Rattle.dict_windows.specs.Faults.{HaveGone, all_steps}
@@ -16,10 +17,10 @@ use Rattle.dict_windows.specs.declared.windows.Next.TheVariants.{Window, Over, L
 abbrev pub LoopsAt : FlatDesign → TestPlan → ℕ → Type 0
 LoopsAt design plan time = good_stop design plan ≡ Some (record { time = time; outcome = Hyper })
 
--- a counter rose by no more than the process steps of the good first run from so many slots to so many, and twice what the full grades of the faults of some shards took in between
+-- a counter rose by no more than the process steps of the good machine's slots in between and the own steps of the shards' faults
 abbrev pub RisesBeside : FlatDesign → TestPlan → ℕ → List KeepingShard → ℕ → ℕ → List KeepingShard → ℕ → Type 0
 RisesBeside design plan ran shards before later moved after =
-    after + (steps_of_slots design plan ran + 2 * all_steps tally shards) ≤ before + (steps_of_slots design plan later + 2 * all_steps tally moved)
+    RisesOwn design plan (λ tally. steps_of_slots design plan ran + all_steps tally shards) (λ tally. steps_of_slots design plan later + all_steps tally moved) before after
 
 module _ {N : Type 0} where
   -- the strobes have seen the good machine behind so many slots, through which the shards have gone

@@ -1,11 +1,10 @@
 // The shards of the faults that stand for their classes.
 
 ghost use Rattle.std.specs.Prelude.{◌≡◌, ◌++◌, ◌<◌, ◌≤◌, IfOk, OnOk, length, sum_by};
-ghost use Rattle.v_design.specs.WellFormed.{KeepsRules};
 ghost use Rattle.copy_laws.specs.Windows.{good_slots};
 ghost use Rattle.fault_shards.specs.Cuts.{shard, shard_count};
 ghost use Rattle.fault_shards.specs.Shards.{AreShardsOf, representatives_of};
-ghost use Rattle.kept_shard.specs.graded_steps.Behind.{RisesTwice};
+ghost use Rattle.own_gradings.specs.Numbers.{OwnStepsOf, RisesOwn};
 ghost use Rattle.kept_shard.specs.Keeping.{full_steps_at, kept_steps_of, numbers_of};
 ghost use Rattle.dict_windows.specs.Faults.{AreWhole, HaveGone, all_steps, faults_in};
 
@@ -82,7 +81,7 @@ fn push_kept<N: World>(shard: KeptShard<N>, kept: &mut Vec<Kept>) -> Result<(), 
     requires { shard.gone ≡ length (good_slots N.design N.plan) }
     ensures faults { OnOk result (numbers_of kept.new.items ≡ numbers_of kept.old.items ++ numbers_of shard.kept) }
     ensures whole { OnOk result (AreWhole N.design N.plan kept.old.items → AreWhole N.design N.plan kept.new.items) }
-    ensures steps { OnOk result (KeepsRules N.design → kept_steps_of N.design N.plan shard ≤ sum_by (full_steps_at N.design N.plan) (numbers_of shard.kept)) }
+    ensures steps { OnOk result ((tally : OwnStepsOf N.design N.plan) → kept_steps_of tally shard ≤ sum_by (full_steps_at tally) (numbers_of shard.kept)) }
 {
     shard.stands();
     let mut own = shard.into_kept();
@@ -98,7 +97,7 @@ pub(crate) fn kept_of<N: World>(
     requires { HaveGone (length (good_slots N.design N.plan)) shards.items }
     ensures faults { IfOk result (λ kept. numbers_of kept.items ≡ faults_in shards.items) }
     ensures whole { IfOk result (λ kept. AreWhole N.design N.plan kept.items) }
-    ensures steps { IfOk result (λ _. KeepsRules N.design → all_steps N.design N.plan shards.items ≤ sum_by (full_steps_at N.design N.plan) (faults_in shards.items)) }
+    ensures steps { IfOk result (λ _. (tally : OwnStepsOf N.design N.plan) → all_steps tally shards.items ≤ sum_by (full_steps_at tally) (faults_in shards.items)) }
 {
     let mut kept = Vec::new(alloc);
     'shards: for shard in shards {

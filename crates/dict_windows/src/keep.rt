@@ -1,7 +1,6 @@
 // What is kept of the faults behind all windows.
 
 ghost use Rattle.std.specs.Prelude.{◌≡◌, true, IfOk};
-ghost use Rattle.v_design.specs.WellFormed.{KeepsRules};
 ghost use Rattle.fault_shards.specs.Shards.{AreShardsOf, representatives_of};
 ghost use Rattle.dict_windows.specs.Outcomes.{IsOutcome, OutcomeTicks};
 
@@ -18,13 +17,6 @@ use std::sync::ledger::Ledger;
 use v_design::World;
 use vf_base::{NoMemory, Steps};
 
-/// The design of a setup keeps the rules of all designs. It does nothing when it runs.
-fn rules_hold<N: World>(setup: &Setup<'_, N>)
-    ensures { KeepsRules N.design }
-{
-    let _design = setup.design();
-}
-
 /// What is kept of all faults, where the good machine's run stands before its first slot.
 fn keep_in<'d, N: World, L: Ledger>(
     alloc: Global,
@@ -40,7 +32,7 @@ fn keep_in<'d, N: World, L: Ledger>(
     ensures outcome { IfOk result (IsOutcome N.design N.plan (representatives_of shards.now)) }
     ensures ticks { IfOk result (OutcomeTicks N.design N.plan (representatives_of shards.now) steps.old steps.new) }
 {
-    rules_hold(setup);
+    own_gradings::own_steps_rise();
     let own = begin_shards(alloc, setup, shards)?;
     let good = nothing_seen(alloc, setup);
     let mut beside = Beside { good, shards: own };

@@ -1,7 +1,7 @@
 // Window after window.
 
 ghost use Rattle.std.specs.Prelude.{◌≡◌, true, IfOk, OnOk};
-ghost use Rattle.kept_shard.specs.graded_steps.Behind.{RisesTwice};
+ghost use Rattle.own_gradings.specs.Numbers.{RisesOwn};
 ghost use Rattle.dict_windows.specs.Faults.{all_steps, faults_in};
 ghost use Rattle.dict_windows.specs.Windows.{AreThrough, GoesOn, RisesBeside, StandsBeside};
 

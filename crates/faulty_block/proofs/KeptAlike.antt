@@ -93,10 +93,10 @@ module _ (grow : StepsGrow) (law : WritesAreUnseen) (machine : Machine) (parts :
     keeps-alike before (event ∷ events) [] go may keeps = keeps-alike (before ++ event ∷ []) events [] (go-alike before event go may.0) may.1 keeps
     keeps-alike before (event ∷ events) (step ∷ tried) go may (inl keeps) = inl (keeps-alike (before ++ event ∷ []) events (step ∷ tried) (go-alike before event go may.0) may.1 keeps)
     keeps-alike before (event ∷ events) (step ∷ tried) go may (inr keeps) = inr (
-        keeps.0,
-        at-alike before (process_number step.process) step go keeps.1,
-        keeps-alike (before ++ event ∷ []) events tried (go-alike before event go may.0) may.1 keeps.2,
-      )
+      keeps.0,
+      at-alike before (process_number step.process) step go keeps.1,
+      keeps-alike (before ++ event ∷ []) events tried (go-alike before event go may.0) may.1 keeps.2,
+    )
 
   -- each process takes the same steps in events from both
   pub steps-alike : (before events : List Event) → GoAlike before → AllHold (StepsLane parts) events → (process : ℕ) →

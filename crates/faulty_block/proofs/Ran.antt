@@ -18,7 +18,7 @@ use Rattle.block_compare.specs.block_events.declared.runner.Runner.{Runner}
 use Rattle.block_compare.specs.block_events.Runners.{machine_of, state_of}
 use Rattle.block_runner.specs.Beside.{TellsBeside}
 use Rattle.block_runner.specs.Ends.{EndsSo, GoesOn}
-use Rattle.block_runner.specs.declared.beside.GoodPhase.{GoodPhase}
+use Rattle.block_runner.specs.declared.goods.GoodPhase.{GoodPhase}
 use Rattle.window_runs.specs.OfPhase.{TellsRuns}
 use Rattle.run_numbers.specs.Numbers.{times_of}
 use Rattle.good_runs.specs.Kept.{Keeps}
@@ -166,13 +166,13 @@ tells-put runner begins fault runs numbers kept machine time of =
     }
 
 -- where it was run to its end
-pub ran-some : (runner new : Runner) (own : LockstepCopy) (block : ShownBlock) (fault : StuckAt) (end : BlockEnd) (told : BlockTold) (found : Option ℕ) (kept : GoodPhase) (phase : ℕ) (ended : List ℕ)
+pub ran-some : (runner new : Runner) (own : LockstepCopy) (block : ShownBlock) (fault : StuckAt) (end : BlockEnd) (told : BlockTold) (found : Option ℕ) (good : GoodPhase) (phase : ℕ) (ended : List ℕ)
     (more : List TriedStep) →
-    ((of : MayRun (acts_in block) own runner) (runs : ℕ → List ProcessRun) (numbers : ℕ → ℕ) → TellsBeside (machine_of runner) (state_of runner) runs numbers kept → (taken : ℕ) → end ≡ Ran →
+    ((of : MayRun (acts_in block) own runner) (runs : ℕ → List ProcessRun) (numbers : ℕ → ℕ) → TellsBeside (machine_of runner) (state_of runner) runs numbers good → (taken : ℕ) → end ≡ Ran →
     told.steps ≡ taken → RanBlock (faulty_machine (machine_of runner).design fault) (acts_in block) of.put.faulty (state_of runner) runs numbers phase taken new told ended more) →
     IfSome found (λ taken. end ≡ Ran) → IfSome found (λ taken. told.steps ≡ taken) →
     IfSome found (λ taken.
-    (of : MayRun (acts_in block) own runner) (runs : ℕ → List ProcessRun) (numbers : ℕ → ℕ) → TellsBeside (machine_of runner) (state_of runner) runs numbers kept →
+    (of : MayRun (acts_in block) own runner) (runs : ℕ → List ProcessRun) (numbers : ℕ → ℕ) → TellsBeside (machine_of runner) (state_of runner) runs numbers good →
     RanBlock (faulty_machine (machine_of runner).design fault) (acts_in block) of.put.faulty (state_of runner) runs numbers phase taken new told ended more)
-ran-some runner new own block fault end told None kept phase ended more block-is ran steps = tt
-ran-some runner new own block fault end told (Some taken) kept phase ended more block-is ran steps = λ of runs numbers tells. block-is of runs numbers tells taken ran steps
+ran-some runner new own block fault end told None good phase ended more block-is ran steps = tt
+ran-some runner new own block fault end told (Some taken) good phase ended more block-is ran steps = λ of runs numbers tells. block-is of runs numbers tells taken ran steps

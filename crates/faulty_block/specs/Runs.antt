@@ -1,5 +1,5 @@
 -- A block that a faulty machine in lockstep runs by itself (blocks and slots by IEEE 1364-2001, clause 5).
-use Rattle.std.specs.Prelude.{◌≡◌, ℕ, ◌+◌, ◌≤◌, ◌^◌, Bool, true, false, List, [], ◌++◌, length, map, Some, sum_by}
+use Rattle.std.specs.Prelude.{◌≡◌, ℕ, ◌+◌, ◌≤◌, ◌^◌, Bool, true, false, List, [], length, map, Some, sum_by}
 use Rattle.vf_base.specs.Base.{process_number}
 use Rattle.v_design.specs.Designs.{Machine}
 use Rattle.v_design.specs.States.{State, Event, process_at}
@@ -7,7 +7,6 @@ use Rattle.v_design.specs.OwnSteps.{ProcessRun, runs_of, steps_in}
 use Rattle.v_design.specs.Runs.{happened}
 use Rattle.v_design.specs.WellFormed.{KeepsRules}
 use Rattle.machine_laws.specs.SlotLoop.{NoNodeWorks, first_lane, steps_of}
-use Rattle.machine_events.specs.Steps.{raised_by}
 use Rattle.copy_laws.specs.Beside.{AreFirst}
 use Rattle.race_laws.specs.Writes.{WritesAreOf}
 use Rattle.run_numbers.specs.Numbers.{times_of}
@@ -60,9 +59,3 @@ pub record StepsWithin (machine : Machine) (begins : State) (goods : ℕ → Lis
   pub in_order : AreFirst machine begins events
   pub few : sum_by steps_of events ≤ most + 1
   pub keeps : Keeps goods numbers machine phase begins [] events tried
-
--- behind some kept steps there are these, each of which ticked
-pub record TicksTried (old new : List TriedStep) (before now : ℕ) : Type 0 where
-  pub more : List TriedStep
-  pub are : new ≡ old ++ more
-  pub ticks : now ≡ raised_by (length more) before

@@ -6,9 +6,10 @@ ghost use Rattle.v_design.specs.Designs.{faulty_machine};
 ghost use Rattle.v_design.specs.OwnSteps.{ProcessRun};
 ghost use Rattle.v_design.specs.Plain.{fault_of};
 ghost use Rattle.block_compare.specs.block_events.Runners.{IsWhole, machine_of, state_of};
-ghost use Rattle.block_runner.specs.Beside.{MayGoBeside, TellsBeside};
+ghost use Rattle.block_runner.specs.Beside.{AreFew, MayGoBeside, TellsBeside};
+ghost use Rattle.block_runner.specs.Ends.{TicksTried};
 ghost use Rattle.block_runner.specs.declared.blocks.BlockEnd.TheVariants.{Ran};
-ghost use Rattle.faulty_block.specs.Runs.{MayRun, RanBlock, StepsWithin, TicksTried, acts_in};
+ghost use Rattle.faulty_block.specs.Runs.{MayRun, RanBlock, StepsWithin, acts_in};
 
 use block_compare::{LockstepCopy, Runner, ShownBlock, put_in};
 use block_runner::{Beside, BlockEnd, GoodPhase, run_block};
@@ -57,6 +58,7 @@ pub fn run_faulty<L: Ledger>(
     requires whole { IsWhole runner.old }
     requires run { MayRun (acts_in block.now) own.now runner.old }
     requires goods { MayGoBeside (machine_of runner.old) (state_of runner.old) goods.now }
+    requires few { AreFew (machine_of runner.old) goods.now most }
     ensures whole { OnOk result (IsWhole runner.new) }
     ensures machine { OnOk result (machine_of runner.new ≡ faulty_machine (machine_of runner.old).design (fault_of fault)) }
     ensures few { IfOk result (λ ran. IfSome ran (λ taken. taken ≤ most)) }

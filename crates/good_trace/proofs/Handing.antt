@@ -1,9 +1,9 @@
 -- What a window tells of its phases and slots to a machine that runs beside them (slots and phases by IEEE 1364-2001, clause 5).
 use Rattle.std.proofs.Common.{◌≡◌, ℕ, zero, suc, ◌+◌, ◌-◌, ◌<◌, ◌≤◌, ◌^◌, Bool, true, false, cond, List, [], ◌∷◌, ◌++◌, map, length, get_or, take, drop, refl, sym, ap, subst, ◌∙◌, inl, inr, arith, length-append, length-drop, length-take-le, eq-eqb, ne_eqb}
 use Rattle.std.specs.Prelude.{All, Option, Some, None, find, nat_eq, slice_get}
-use Rattle.std.proofs.lemmas.Bool.{eqb-true}
+use Rattle.std.proofs.lemmas.Bool.{cases_lt, eqb-true}
 use Rattle.std.proofs.lemmas.List.Elements.{All-filter, filter_passes}
-use Rattle.std.proofs.lemmas.Option.{slice_get_cases, slice_get_within}
+use Rattle.std.proofs.lemmas.Option.{get_or_from_slice_get, slice_get-get_or, slice_get_cases, slice_get_within}
 use Rattle.vf_base.specs.Base.{process_number}
 use Rattle.vf_base.specs.Lists.{AllHold}
 use Rattle.v_design.specs.Designs.{FlatDesign, Machine, TestPlan, good_machine}
@@ -13,7 +13,7 @@ use Rattle.v_design.specs.Runs.{FirstSlot, first_run, first_slots, most_moves, m
 use Rattle.v_design.specs.States.{State, start}
 use Rattle.order_laws.proofs.FirstOrder.SlotMoves.{slot_may}
 use Rattle.machine_laws.specs.SlotLoop.{slot_from}
-use Rattle.copy_laws.specs.Windows.{good_slots, window_slots}
+use Rattle.copy_laws.specs.Windows.{WindowEnd, good_slots, window_slots}
 use Rattle.between_slots.specs.Between.{window_phases}
 use Rattle.between_slots.specs.WindowLaws.{window_phases-more, window_phases-part}
 use Rattle.process_code.specs.OneCode.{CodesReadAlike}
@@ -33,6 +33,7 @@ use Rattle.window_runs.specs.declared.phase.PhaseRuns.{PhaseRuns}
 use Rattle.good_trace.specs.Beginnings.{AreTimes, IsTimeAt, AreBeginnings, IsBeginning}
 use Rattle.good_trace.specs.BesideSlots.{TellsSlots, slot_runs}
 use Rattle.good_trace.specs.RunsKept.{HasRuns}
+use Rattle.good_trace.specs.Traces.{WindowKept}
 use Rattle.good_trace.specs.declared.beside.WindowSlots.{WindowSlots}
 use Rattle.good_trace.specs.declared.pushed.SlotBeginning.{SlotBeginning}
 use Rattle.v_design.specs.Accesses.{ObjectAccess}
@@ -46,11 +47,11 @@ use Rattle.good_trace.proofs.Boundaries.{time-at}
 each-slot : (P : FirstSlot → Type 0) (machine : Machine) (time : ℕ) → ((state : State) → P (slot_from machine state)) → (count : ℕ) (state : State) →
     AllHold P (first_slots count machine time state)
 each-slot P machine time each zero state = tt
-each-slot P machine time each (suc count) state = (each state, go (next_slot machine time (slot_from machine state)))
+each-slot P machine time each (suc count) state = (each state, go (next_slot machine time (slot_from machine state)) (each-slot P machine time each count))
   where
-    go : (next : Option State) → AllHold P (elim next [ None ↦ [] | Some later ↦ first_slots count machine time later ])
-    go None = tt
-    go (Some later) = each-slot P machine time each count later
+    go : (next : Option State) → ((later : State) → AllHold P (first_slots count machine time later)) → AllHold P (elim next [ None ↦ [] | Some later ↦ first_slots count machine time later ])
+    go None rest = tt
+    go (Some later) rest = rest later
 
 -- the phases of a slot begin at its time
 slot-time : (machine : Machine) (state : State) → HaveTime state.time (phases machine (slot_from machine state))
@@ -197,22 +198,19 @@ module _ (alike : CodesReadAlike) (design : FlatDesign) (plan : TestPlan) (befor
         at_time = slots-time design plan (before + number) slot there.1;
         told = λ place phase stands.
             let machine = good_machine design in
-            let time : phase.begins.time ≡ slot.begins.time = phase-time (slots-time design plan (before + number) slot there.1) place phase stands in
+            let time : phase.begins.time ≡ slot.begins.time = phase-time slot.begins.time (phases machine slot) (slots-time design plan (before + number) slot there.1) place phase stands in
             subst (λ t. TellsRuns design t (λ process. process_runs machine process phase) (phase_of (slot_runs told one next) place)) time
             (runs-told alike design plan before through count states runs index (length (window_phases design plan before (before + number)) + place) phase had
             (phase-there number place slot phase here stands) (phase_of (slot_runs told one next) place) same_index same_runs (omega (arith, here_first)));
       }
     where
-      phase-time : {time : ℕ} {list : List Phase} → HaveTime time list → (place : ℕ) (phase : Phase) → slice_get list place ≡ Some phase → phase.begins.time ≡ time
-      phase-time {time} {list} all place phase stands = at-phase time list all place phase stands
-        where
-          same-phase : (x y : Phase) → Some x ≡ Some y → x ≡ y
-          same-phase x y e = cc
+      same-phase : (x y : Phase) → Some x ≡ Some y → x ≡ y
+      same-phase x y e = cc
 
-          at-phase : (time : ℕ) (list : List Phase) → HaveTime time list → (place : ℕ) (phase : Phase) → slice_get list place ≡ Some phase → phase.begins.time ≡ time
-          at-phase time [] all place phase stands = cc
-          at-phase time (x ∷ list) all zero phase stands = ap (λ (p : Phase). p.begins.time) (sym (same-phase x phase stands)) ∙ all.0
-          at-phase time (x ∷ list) all (suc place) phase stands = at-phase time list all.1 place phase stands
+      phase-time : (time : ℕ) (list : List Phase) → HaveTime time list → (place : ℕ) (phase : Phase) → slice_get list place ≡ Some phase → phase.begins.time ≡ time
+      phase-time time [] all place phase stands = cc
+      phase-time time (x ∷ list) all zero phase stands = ap (λ (p : Phase). p.begins.time) (sym (same-phase x phase stands)) ∙ all.0
+      phase-time time (x ∷ list) all (suc place) phase stands = phase-time time list all.1 place phase stands
 
   pub slots-tell : TellsSlots design slots told
   slots-tell = record {
@@ -235,6 +233,11 @@ module _ (alike : CodesReadAlike) (design : FlatDesign) (plan : TestPlan) (befor
     each = slot-tells;
   }
 
+  -- the same of the window as it is seen
+  pub seen-tell : (seen : WindowKept) (ending : WindowEnd) → record { before = before; through = through; ending = ending } ≡ seen →
+      TellsSlots design (window_slots design plan seen.before seen.through) told
+  seen-tell seen ending same = subst (λ (k : WindowKept). TellsSlots design (window_slots design plan k.before k.through) told) same slots-tell
+
 -- Finding a slot by its time
 
 abbrev pub IsAtTime : ℕ → FirstSlot → Bool
@@ -251,9 +254,57 @@ find-at time (x ∷ slots) (suc place) slot here at before =
     ∙ find-at time slots place slot here at (λ k other low. before (suc k) other (omega (arith, low)))
   where
     not-at : (time : ℕ) (x : FirstSlot) → (x.begins.time ≡ time → ⊥) → IsAtTime time x ≡ false
-    not-at time x no = ne_eqb x.begins.time time no
+    not-at time x other = ne_eqb x.begins.time time other
 
 pub find-none : (time : ℕ) (slots : List FirstSlot) → ((k : ℕ) (other : FirstSlot) → slice_get slots k ≡ Some other → other.begins.time ≡ time → ⊥) → find (IsAtTime time) slots ≡ None
 find-none time [] none = refl
 find-none time (x ∷ slots) none =
     ap (λ b. cond b (Some x) (find (IsAtTime time) slots)) (ne_eqb x.begins.time time (none 0 x refl)) ∙ find-none time slots (λ k other. none (suc k) other)
+
+-- The slot of a time
+
+module _ (design : FlatDesign) (slots : List FirstSlot) (told : WindowSlots) (tells : TellsSlots design slots told) (time : ℕ) where
+  -- the first one at that time is told
+  pub slot-found : (place : ℕ) (blank : SlotBeginning) → place < length told.times.now → get_or told.times.now place 0 ≡ time →
+      ((k other : ℕ) → k < place → slice_get told.times.now k ≡ Some other → other ≡ time → ⊥) →
+      TellsSlot design time (phases_if (good_machine design) (find (IsAtTime time) slots))
+      (slot_runs told (get_or told.beginnings.now place blank) (get_or told.beginnings.now (place + 1) blank))
+  slot-found place blank low at before = elim (slice_get_cases slots place).1 [
+    | inl found ↦
+        let here = found.2 in
+        let time_is : found.0.begins.time ≡ time = sym (get_or_from_slice_get told.times.now place found.0.begins.time 0 (tells.times place found.0 here)) ∙ at in
+        let is : find (IsAtTime time) slots ≡ Some found.0 =
+        find-at time slots place found.0 here time_is (λ k other less there same. before k other.begins.time less (tells.times k other there) same) in
+        let held = tells.held in
+        let counted = tells.count in
+        let first : slice_get told.beginnings.now place ≡ Some (get_or told.beginnings.now place blank) =
+        slice_get-get_or told.beginnings.now place blank (omega (arith, low, held, counted)) in
+        let second : slice_get told.beginnings.now (place + 1) ≡ Some (get_or told.beginnings.now (place + 1) blank) =
+        slice_get-get_or told.beginnings.now (place + 1) blank (omega (arith, low, held, counted)) in
+        subst (λ (o : Option FirstSlot). TellsSlot design time (phases_if (good_machine design) o) (slot_runs told (get_or told.beginnings.now place blank) (get_or told.beginnings.now (place + 1) blank)))
+        (sym is)
+        (subst (λ t. TellsSlot design t (phases (good_machine design) found.0) (slot_runs told (get_or told.beginnings.now place blank) (get_or told.beginnings.now (place + 1) blank))) time_is
+        (tells.each place found.0 (get_or told.beginnings.now place blank) (get_or told.beginnings.now (place + 1) blank) here first second))
+    | inr past ↦ absurd (let counted = tells.count in omega (arith, past.0, low, counted))
+  ]
+
+  -- none is at that time
+  pub slot-none : (count : ℕ) → length told.times.now ≤ count → ((k other : ℕ) → k < count → slice_get told.times.now k ≡ Some other → other ≡ time → ⊥) →
+      TellsSlot design time (phases_if (good_machine design) (find (IsAtTime time) slots)) (record { index = told.index; runs = told.runs; before = 0; phases = 0 })
+  slot-none count all before =
+      let none : find (IsAtTime time) slots ≡ None =
+      find-none time slots (λ k other here same.
+      let there = tells.times k other here in
+      before k other.begins.time (let low = slice_get_within told.times.now k other.begins.time there in omega (arith, low, all)) there same) in
+      subst (λ (o : Option FirstSlot). TellsSlot design time (phases_if (good_machine design) o) (record { index = told.index; runs = told.runs; before = 0; phases = 0 })) (sym none)
+      (record { count = refl; fits = omega arith; at_time = tt; told = λ number phase stands. cc })
+
+-- so it is one place further
+pub before-more : (times : List ℕ) (time place : ℕ) → ((k other : ℕ) → k < place → slice_get times k ≡ Some other → other ≡ time → ⊥) → (get_or times place 0 ≡ time → ⊥) →
+    (k other : ℕ) → k < place + 1 → slice_get times k ≡ Some other → other ≡ time → ⊥
+before-more times time place before here k other low there same = elim (cases_lt k place) [
+  | inl less ↦ before k other less there same
+  | inr by ↦
+      let at : k ≡ place = omega (arith, low, by) in
+      here (ap (λ n. get_or times n 0) (sym at) ∙ get_or_from_slice_get times k other 0 there ∙ same)
+]

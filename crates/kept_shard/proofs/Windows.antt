@@ -7,7 +7,7 @@ use Rattle.vf_base.specs.Lists.{AllHold}
 use Rattle.v_design.specs.Designs.{FlatDesign, TestPlan}
 use Rattle.kept_samples.specs.declared.kept.Kept.{Kept}
 use Rattle.copy_laws.specs.Windows.{IsWindow, WindowEnd, good_slots}
-use Rattle.beside_laws.specs.GoodRuns.{GoodRunGoesOn}
+use Rattle.own_gradings.specs.Numbers.{OwnStepsOf}
 use Rattle.shard_windows.specs.graded_steps.Behind.{RisesWithin}
 use Rattle.shard_windows.specs.copy_window.ShardFaults.{IsShardFault}
 use Rattle.shard_windows.specs.copy_window.declared.fault.ShardFault.{ShardFault}
@@ -67,16 +67,16 @@ module _ (design : FlatDesign) (plan : TestPlan) (gone before : ℕ) (at : befor
           (numbers-same design plan before reached olds held here news tolds swapped through behind came zip reaches some within lasts ends back)
           ∙ ap numbers_of (moved_kept ∙ seen)
 
-      pub went-rises : (run : GoodRunGoesOn) (seen : KeepingShard) (number one other : ℕ) → record { gone = gone; kept = kepts } ≡ seen → number ≡ through →
+      pub went-rises : (tally : OwnStepsOf design plan) (seen : KeepingShard) (number one other : ℕ) → record { gone = gone; kept = kepts } ≡ seen → number ≡ through →
           RisesWithin (steps_of_faults tally before news) (steps_of_faults tally through came) one other →
           RisesWithin (kept_steps_of tally seen) (kept_steps_of tally (record { gone = number; kept = ends })) one other
-      went-rises run seen number one other is at_end rises =
+      went-rises tally seen number one other is at_end rises =
           let a : steps_of_faults tally before news ≡ kept_steps_of tally (record { gone = before; kept = held }) =
-          taken-before run design plan before reached olds held here news tolds swapped in
+          taken-before design plan tally before reached olds held here news tolds swapped in
           let b : kept_steps_of tally (record { gone = before; kept = held }) ≡ kept_steps_of tally seen =
           (λ i. kept_steps_of tally (record { gone = at i; kept = moved_kept i })) ∙ ap (kept_steps_of tally) is in
           let c : kept_steps_of tally (record { gone = through; kept = ends }) ≡ steps_of_faults tally through came =
-          taken-behind run design plan before reached olds held here news tolds swapped through behind came zip reaches some within lasts ends back in
+          taken-behind design plan tally before reached olds held here news tolds swapped through behind came zip reaches some within lasts ends back in
           let d : kept_steps_of tally (record { gone = number; kept = ends }) ≡ kept_steps_of tally (record { gone = through; kept = ends }) =
           ap (λ n. kept_steps_of tally (record { gone = n; kept = ends })) at_end in
           omega (arith, a, b, c, d, rises)

@@ -1,14 +1,13 @@
 -- What contracts see of a shard whose faults' samples are kept, and what stands of it behind so many slots of the good first run (strobes by the plan; slots by IEEE 1364-2001, clause 5).
-use Rattle.std.specs.Prelude.{◌≡◌, ℕ, true, List, [], map, length, None, Some, slice_get, sum_by}
+use Rattle.std.specs.Prelude.{◌≡◌, ℕ, true, List, [], map, length, Option, None, Some, slice_get, sum_by}
+use Rattle.std.specs.List.{filter_map}
 use Rattle.vf_base.specs.Base.{fault_number}
 use Rattle.vf_base.specs.Lists.{AllHold}
 use Rattle.v_design.specs.Designs.{FlatDesign, StuckAt, TestPlan}
 use Rattle.copy_laws.specs.Windows.{good_slots, time_at}
-use Rattle.shard_windows.specs.graded_steps.Behind.{fault_steps}
-use Rattle.shard_windows.specs.copy_window.ShardFaults.{steps_taken}
+use Rattle.own_gradings.specs.Numbers.{OwnStepsOf}
 use Rattle.kept_samples.specs.Kept.{Keeps}
 use Rattle.kept_samples.specs.declared.kept.Kept.{Kept}
-use Rattle.fault_strobes.specs.Said.{plan_by}
 use Rattle.fault_strobes.specs.Reached.{KeepsTo}
 
 -- a shard: through how many slots of the good first run it has gone, and what is kept of its faults
@@ -47,14 +46,21 @@ StandsKept design plan shard = AllHold (KeptStands design plan shard.gone) shard
 abbrev pub KeepsAll : FlatDesign → TestPlan → KeepingShard → Type 0
 KeepsAll design plan shard = length (good_slots design plan) ≡ shard.gone → AllHold (KeptWhole design plan) shard.kept
 
--- the process steps that the grading of a fault takes behind so many slots of the good first run, where no strobe ends it: up to there, or in all, where it ended by a race or a loop
-abbrev pub steps_of_kept : FlatDesign → TestPlan → ℕ → Kept → ℕ
-steps_of_kept tally gone kept = elim (slice_get plan.faults (fault_number kept.fault)) [ None ↦ 0 | Some fault ↦ steps_taken design plan gone fault kept.end ]
+-- the own steps that a fault takes up to behind so many slots of the good first run, where no strobe ends its grading
+abbrev pub steps_of_kept : {design : FlatDesign} {plan : TestPlan} → OwnStepsOf design plan → ℕ → Kept → ℕ
+steps_of_kept tally gone kept = tally.steps (fault_number kept.fault) true gone
 
 -- those of all faults of a shard
-abbrev pub kept_steps_of : FlatDesign → TestPlan → KeepingShard → ℕ
+abbrev pub kept_steps_of : {design : FlatDesign} {plan : TestPlan} → OwnStepsOf design plan → KeepingShard → ℕ
 kept_steps_of tally shard = sum_by (steps_of_kept tally shard.gone) shard.kept
 
--- all process steps that the fault of a number takes: through the end of its full grade, or the plan's end
-abbrev pub full_steps_at : FlatDesign → TestPlan → ℕ → ℕ
-full_steps_at tally number = elim (slice_get plan.faults number) [ None ↦ 0 | Some fault ↦ fault_steps design (plan_by true plan) fault ]
+-- all that the fault of a number takes: through the end of its full grade, or to the plan's end
+abbrev pub full_steps_at : {design : FlatDesign} {plan : TestPlan} → OwnStepsOf design plan → ℕ → ℕ
+full_steps_at tally number = tally.all number true
+
+-- the listed faults whose machines go on
+abbrev pub open_kept : TestPlan → Kept → Option StuckAt
+open_kept plan kept = elim kept.end [ None ↦ slice_get plan.faults (fault_number kept.fault) | Some end ↦ None ]
+
+abbrev pub open_in : TestPlan → List Kept → List StuckAt
+open_in plan kept = filter_map (open_kept plan) kept

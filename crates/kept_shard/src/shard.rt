@@ -1,10 +1,11 @@
 // A shard of faults whose samples are kept.
 
-ghost use Rattle.std.specs.Prelude.{◌≡◌, ◌<◌, ◌≤◌, sum_by, [], All, IfOk, OnErr, OnOk, length, map};
+ghost use Rattle.std.specs.Prelude.{◌≡◌, ◌<◌, ◌≤◌, sum_by, [], All, IfOk, OnErr, OnOk, length, map, true};
 ghost use Rattle.vf_base.specs.Base.{fault_number};
-ghost use Rattle.v_design.specs.WellFormed.{KeepsRules};
-ghost use Rattle.shard_windows.specs.graded_steps.Behind.{RisesTwice};
-ghost use Rattle.kept_shard.specs.Keeping.{KeepsAll, StandsKept, fresh_keeping, full_steps_at, kept_steps_of, numbers_of};
+ghost use Rattle.copy_laws.specs.Windows.{RiseAtMostOwn};
+ghost use Rattle.fault_strobes.specs.Said.{plan_by};
+ghost use Rattle.own_gradings.specs.Numbers.{OwnStepsOf, RisesOwn};
+ghost use Rattle.kept_shard.specs.Keeping.{KeepsAll, StandsKept, fresh_keeping, full_steps_at, kept_steps_of, numbers_of, open_in};
 
 use crate::samples::{kept_fresh, swap_each};
 use good_trace::Setup;
@@ -98,10 +99,12 @@ impl<N: World> KeptShard<N> {
         requires { window.now.before ≡ self.old.gone }
         ensures gone { OnOk result (self.new.gone ≡ window.now.through) }
         ensures numbers { OnOk result (numbers_of self.new.kept ≡ numbers_of self.old.kept) }
+        // Of each fault whose machine hasn't stopped, the own steps in the slots of the window.
+        ensures own { OnOk result (RiseAtMostOwn N.design (plan_by true N.plan) self.old.gone self.new.gone (open_in N.plan self.old.kept) steps.old steps.new) }
         ensures ticks { OnOk result (RisesOwn N.design N.plan (λ tally. kept_steps_of tally self.old) (λ tally. kept_steps_of tally self.new) steps.old steps.new) }
         ensures err { OnErr result (self.new ≡ record self.old { kept = [] }) }
     {
-        beside_laws::good_run_goes_on();
+        own_gradings::own_steps_rise();
         let trace = window.window();
         let _first = trace.begins();
         let mut faults = mem::replace(&mut self.faults, Vec::new(alloc));
@@ -145,16 +148,16 @@ impl<N: World> KeptShard<N> {
     }
 
     /// What is kept of each fault of a shard is its full grade as far as it goes up to the time of the slots that the shard has gone through; once the good first run is through it is
-    /// the whole one; and so far its faults have taken no more process steps than they take in all. The function does nothing when it runs; its contract is the law.
+    /// the whole one; and so far its faults have taken no more own steps than they take in all. The function does nothing when it runs; its contract is the law.
     pub fn stands(&self)
         ensures kept { StandsKept N.design N.plan self.now }
         ensures whole { KeepsAll N.design N.plan self.now }
-        ensures steps { KeepsRules N.design → kept_steps_of N.design N.plan self.now ≤ sum_by (full_steps_at N.design N.plan) (numbers_of self.now.kept) }
+        ensures steps { (tally : OwnStepsOf N.design N.plan) → kept_steps_of tally self.now ≤ sum_by (full_steps_at tally) (numbers_of self.now.kept) }
     {
         beside_laws::good_run_goes_on();
         fault_strobes::strobed_gradings_go_on();
         fault_strobes::full_grades_reach();
-        shard_windows::gradings_take_steps();
+        own_gradings::own_steps_rise();
         let _count = self.faults.len();
     }
 }

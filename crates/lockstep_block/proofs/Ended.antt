@@ -66,3 +66,12 @@ ended-told design plan from until slot place block rest before behind runs windo
           sym (take-map run_process (behind.runs - before.runs) (drop before.runs runs)) ∙ ap (take (behind.runs - before.runs)) parts
           ∙ (let same : behind.runs - before.runs ≡ length enders = omega (arith, long) in ap (λ n. take n (enders ++ more.0)) same) ∙ take-append_seam enders more.0;
     }
+
+-- none end where none are between
+pub none-ended : (design : FlatDesign) (place : Place) (block : List Event) (before behind : MomentKept) (runs : List RunEnd) → EndedTold design place block before behind runs →
+    behind.runs ≤ before.runs → [] ≡ enders_in (good_machine design) (state_there (good_machine design) place) block
+none-ended design place block before behind runs told past = by (enders_in (good_machine design) (state_there (good_machine design) place) block) told.long
+  where
+    by : (enders : List ℕ) → behind.runs ≡ before.runs + length enders → [] ≡ enders
+    by [] long = refl
+    by (ender ∷ enders) long = absurd (omega (arith, long, past))

@@ -89,8 +89,8 @@ module _ (machine : Machine) (goods : ℕ → List ProcessRun) (numbers : ℕ �
       inl (subst (λ (l : List Event). Keeps goods (λ other. 0) machine phase begins l events (step ∷ tried)) (sym (append_assoc passed before (event ∷ [])))
       (keeps-behind (before ++ event ∷ []) events (step ∷ tried) keeps))
   keeps-behind before (event ∷ events) (step ∷ tried) (inr keeps) = inr (
-      keeps.0,
-      at-behind before (process_number step.process) step keeps.1,
-      subst (λ (l : List Event). Keeps goods (λ other. 0) machine phase begins l events tried) (sym (append_assoc passed before (event ∷ [])))
-      (keeps-behind (before ++ event ∷ []) events tried keeps.2),
-    )
+    keeps.0,
+    at-behind before (process_number step.process) step keeps.1,
+    subst (λ (l : List Event). Keeps goods (λ other. 0) machine phase begins l events tried) (sym (append_assoc passed before (event ∷ [])))
+        (keeps-behind (before ++ event ∷ []) events tried keeps.2),
+  )

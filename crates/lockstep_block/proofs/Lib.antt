@@ -6,6 +6,7 @@ pub mod TriedThere
 pub mod OwnRuns
 pub mod OwnBlocks
 pub mod Ended
+pub mod Noted
 pub use Rattle.faulty_block.proofs.lockstep_room as lockstep_room
 pub use Rattle.faulty_block.proofs.lockstep_exchange as lockstep_exchange
 pub use Rattle.faulty_block.proofs.copy_skip as copy_skip

@@ -1,7 +1,6 @@
 -- A block of its own that a fault takes beside the good machine's: it is run, compared and noted, and the runner goes back.
 use Rattle.std.proofs.Common.{◌≡◌, ℕ, zero, suc, ◌+◌, ◌-◌, ◌^◌, ◌<◌, ◌≤◌, List, [], ◌∷◌, ◌++◌, drop, length, map, Bool, true, false, ◌||◌, refl, sym, ap, subst, ◌∙◌, arith}
 use Rattle.std.specs.Prelude.{Some, None, sum_by}
-use Rattle.std.proofs.Math.Seq.{drop-append_seam}
 use Rattle.std.proofs.lemmas.List.{length-append}
 use Rattle.vf_base.specs.Base.{object_number}
 use Rattle.vf_base.specs.Lists.{has}
@@ -55,8 +54,9 @@ use Rattle.own_slots.specs.Slots.{OwnSoFar}
 use Rattle.good_runs.specs.declared.tried.TriedStep.{TriedStep}
 use Rattle.run_numbers.specs.declared.numbers.RunApart.{RunApart}
 use Rattle.faulty_block.specs.block_runner.Beside.{TellsBeside}
-use Rattle.faulty_block.specs.block_runner.declared.beside.GoodPhase.{GoodPhase}
-use Rattle.faulty_block.specs.Runs.{MayRun, RanBlock, StepsWithin, TicksTried}
+use Rattle.faulty_block.specs.block_runner.declared.goods.GoodPhase.{GoodPhase}
+use Rattle.faulty_block.specs.block_runner.Ends.{TicksTried}
+use Rattle.faulty_block.specs.Runs.{MayRun, RanBlock, StepsWithin}
 use Rattle.faulty_block.proofs.Differs.{is-back, kept-behind}
 use Rattle.lockstep_block.specs.Beside.{ComparesBeside, MayCompareBeside, acts_beside, parts_beside}
 use Rattle.lockstep_block.specs.Blocks.{TriedInSlot}
@@ -104,14 +104,11 @@ raised-most (suc count) before = let rest : raised_by count before ≤ before + 
 -- a counter ticked no more than steps were kept
 pub ticks-told : (old new : List TriedStep) (before now : ℕ) → TicksTried old new before now → RisesWithin (length old) (length new) before now
 ticks-told old new before now of =
-    let most = raised-most (length of.more) before in
+    let more = drop (length old) new in
+    let most = raised-most (length more) before in
     let ticks = of.ticks in
-    let all : length new ≡ length old + length of.more = ap length of.are ∙ length-append old of.more in
+    let all : length new ≡ length old + length more = ap length of.more ∙ length-append old more in
     omega (arith, most, ticks, all)
-
--- so many more steps were kept
-pub more-tried : (old new : List TriedStep) (before now : ℕ) → TicksTried old new before now → old ++ drop (length old) new ≡ new
-more-tried old new before now of = ap (λ l. old ++ drop (length old) l) of.are ∙ ap (λ l. old ++ l) (drop-append_seam old of.more) ∙ sym of.are
 
 -- the moment behind a block
 moment-behind : (design : FlatDesign) (plan : TestPlan) (place : Place) (block rest : List Event) (before behind : MomentKept) → IsShownAt design plan place before →
@@ -225,7 +222,7 @@ module _ {design : FlatDesign} {plan : TestPlan} {fault : StuckAt} {from until :
     tried-there writes run_laws kept tried_new before_ticks now ticks is within =
         let steps = within-beside writes (goods of run_laws) (numbers of run_laws) kept.phase (drop (length tried) tried_new)
         (λ run. within run (goods of run_laws) (numbers of run_laws) (tells-goods of run_laws kept is)) in
-        subst (TriedInSlot design fault of.slot of.begins) (more-tried tried tried_new before_ticks now ticks)
+        subst (TriedInSlot design fault of.slot of.begins) (sym ticks.more)
         (tried-behind of run_laws kept steps.events (drop (length tried) tried_new) is steps.in_order steps.few steps.keeps)
 
   module _ (laws : BlockLaws) (run_laws : RunLaws) (taken : ℕ) (ran-runner : Runner) (told : BlockTold) (kept_phase : GoodPhase) (ended : List ℕ) (more : List TriedStep)

@@ -32,8 +32,8 @@ use Rattle.run_numbers.specs.declared.numbers.RunApart.{RunApart}
 use Rattle.slot_steps.specs.Laws.{SlotStepsGoOn}
 use Rattle.faulty_block.specs.block_events.declared.runner.Runner.{Runner}
 use Rattle.faulty_block.specs.block_events.Runners.{machine_of, state_of}
-use Rattle.faulty_block.specs.block_runner.Beside.{TellsBeside}
-use Rattle.faulty_block.specs.block_runner.declared.beside.GoodPhase.{GoodPhase}
+use Rattle.faulty_block.specs.block_runner.Beside.{AreFew, TellsBeside}
+use Rattle.faulty_block.specs.block_runner.declared.goods.GoodPhase.{GoodPhase}
 use Rattle.faulty_block.specs.lockstep_copy.declared.own.LockstepCopy.{LockstepCopy}
 use Rattle.faulty_block.specs.lockstep_room.declared.counts.Counts.{Counts}
 use Rattle.good_moment.specs.moment_laws.Shown.{MomentKept}
@@ -184,6 +184,20 @@ module _ {design : FlatDesign} {plan : TestPlan} {fault : StuckAt} {from until :
         count = ap length is.ran_is ∙ of.beside.before_at.shows.counts.ran ∙ sym (ap (λ (d : FlatDesign). length d.processes) same);
       }
 
+  pub few-goods : (kept : GoodPhase) → IsGoodPhase design of.place before apart kept → AreFew (machine_of runner) kept spare
+  few-goods kept is other others process low =
+      let tells = tells-goods kept is in
+      let there : process < length kept.numbers.ran.now = subst (λ n. process < n) (sym tells.count) low in
+      let one = tells.are.each process there in
+      let same = others.each process there in
+      let at = of.goes.at in
+      let machine = faulty_machine design fault in
+      let runs = runs-few (steps_in machine process at.phase_begins at.events) in
+      let steps = steps-few-in machine process at.phase_begins at.events in
+      let so_far : phase_steps at.ended + event_steps at.events ≤ at.steps = laws.steps.counted machine at of.goes.going.stands.lockstep.own_comes in
+      let room = of.goes.going.room in
+      omega (arith, one, same, runs, steps, so_far, room)
+
   -- they are those beside which the slot counts
   other-is : slice_get (phases (good_machine design) of.slot) (length of.goes.at.ended) ≡ Some of.place.phase
   other-is =
@@ -232,7 +246,7 @@ module _ {design : FlatDesign} {plan : TestPlan} {fault : StuckAt} {from until :
   module _ (events : List Event) (block : AreBlock (faulty_machine design fault) of.goes.at.state events) (own_ended good_ended : List ℕ)
       (own_is : (process : ℕ) → length (runs_of (steps_in (faulty_machine design fault) process of.goes.at.state events)) ≡ times_of process own_ended)
       (good_is : good_ended ≡ enders_in (good_machine design) (state_there (good_machine design) of.place) of.block) (later : List RunApart) (noted : NotesEnded apart later own_ended good_ended) where
-    machine : Machine
+    abbrev machine : Machine
     machine = faulty_machine design fault
 
     ends : IsBetweenRuns machine (happened machine of.goes.at.phase_begins of.goes.at.events) events

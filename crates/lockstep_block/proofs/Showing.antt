@@ -35,7 +35,7 @@ use Rattle.faulty_block.specs.block_compare.Comparing.{Compares, HaveCodes, MayC
 use Rattle.faulty_block.specs.Back.{IsBackBut, MayPutBack}
 use Rattle.faulty_block.specs.Runs.{MayRun, RanBlock, acts_in}
 use Rattle.faulty_block.specs.block_runner.Beside.{TellsBeside}
-use Rattle.faulty_block.specs.block_runner.declared.beside.GoodPhase.{GoodPhase}
+use Rattle.faulty_block.specs.block_runner.declared.goods.GoodPhase.{GoodPhase}
 use Rattle.v_design.specs.OwnSteps.{ProcessRun}
 use Rattle.good_runs.specs.declared.tried.TriedStep.{TriedStep}
 use Rattle.lockstep_block.specs.Beside.{ComparesBeside, MayCompareBeside, MayPutBackTo, acts_beside, parts_beside}

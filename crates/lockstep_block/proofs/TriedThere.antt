@@ -41,25 +41,24 @@ module _ (good machine : Machine) (others : List Phase) (rules : KeepsRules mach
   kept-to at [] tried [] comes first few so_far keeps =
       record { to = at; comes = comes; begins_is = refl; own = subst (OwnSoFar good machine others at) (sym (append-nil tried)) so_far }
   kept-to at [] tried (step ∷ more) comes first few so_far keeps = absurd keeps
-  kept-to at (event ∷ events) tried more comes first few so_far keeps = by (cases_lt at.steps (most_steps + 1)) more keeps
+  kept-to at (event ∷ events) tried more comes first few so_far keeps =
+      by (cases_lt at.steps (most_steps + 1)) more keeps
+      (λ low front rest kept left. kept-to (after_event machine event at) events front rest (go machine at event rules comes (omega (arith, low)) first.0) first.1 (omega (arith, few, sum)) kept left)
     where
       sum : sum_by steps_of (event ∷ events) ≡ steps_of event + sum_by steps_of events
       sum = sum_by-cons steps_of event events
 
-      next : at.steps < most_steps + 1 → ComesTo machine (after_event machine event at)
-      next low = go machine at event rules comes (omega (arith, low)) first.0
-
       by : (at.steps < most_steps + 1) ⊎ (most_steps + 1 ≤ at.steps) → (more : List TriedStep) →
-          Keeps (goods_at at) (λ process. 0) machine (length at.ended) at.phase_begins at.events (event ∷ events) more → WereTried good machine others at.begins (tried ++ more)
-      by (inl low) [] keeps =
-          kept-to (after_event machine event at) events tried [] (next low) first.1 (omega (arith, few, sum)) (law.passes good machine others at (event ∷ []) tried so_far) keeps
-      by (inl low) (step ∷ more) (inl keeps) =
-          kept-to (after_event machine event at) events tried (step ∷ more) (next low) first.1 (omega (arith, few, sum)) (law.passes good machine others at (event ∷ []) tried so_far) keeps
-      by (inl low) (step ∷ more) (inr keeps) =
+          Keeps (goods_at at) (λ process. 0) machine (length at.ended) at.phase_begins at.events (event ∷ events) more →
+          (at.steps < most_steps + 1 → (front rest : List TriedStep) → OwnSoFar good machine others (after_event machine event at) front →
+          Keeps (goods_at at) (λ process. 0) machine (length at.ended) at.phase_begins (at.events ++ event ∷ []) events rest → WereTried good machine others at.begins (front ++ rest)) →
+          WereTried good machine others at.begins (tried ++ more)
+      by (inl low) [] keeps again = again low tried [] (law.passes good machine others at (event ∷ []) tried so_far) keeps
+      by (inl low) (step ∷ more) (inl keeps) again = again low tried (step ∷ more) (law.passes good machine others at (event ∷ []) tried so_far) keeps
+      by (inl low) (step ∷ more) (inr keeps) again =
           subst (WereTried good machine others at.begins) (append_assoc tried (step ∷ []) more)
-          (kept-to (after_event machine event at) events (tried ++ step ∷ []) more (next low) first.1 (omega (arith, few, sum))
-          (law.goes good machine others at (event ∷ []) tried (step ∷ []) so_far (inr (keeps.0, keeps.1, tt))) keeps.2)
-      by (inr past) more keeps =
+          (again low (tried ++ step ∷ []) more (law.goes good machine others at (event ∷ []) tried (step ∷ []) so_far (inr (keeps.0, keeps.1, tt))) keeps.2)
+      by (inr past) more keeps again =
           let none : more ≡ [] = none-kept (goods_at at) (λ process. 0) machine (length at.ended) at.phase_begins at.events (event ∷ events) more (omega (arith, few, past)) keeps in
           record {
             to = at;

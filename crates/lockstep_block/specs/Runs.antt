@@ -4,7 +4,7 @@ use Rattle.v_design.specs.Designs.{FlatDesign, TestPlan, good_machine}
 use Rattle.v_design.specs.OwnSteps.{process_runs}
 use Rattle.v_design.specs.States.{Event}
 use Rattle.window_runs.specs.OfPhase.{TellsRuns}
-use Rattle.faulty_block.specs.block_runner.declared.beside.GoodPhase.{GoodPhase}
+use Rattle.faulty_block.specs.block_runner.declared.goods.GoodPhase.{GoodPhase}
 use Rattle.run_numbers.specs.Numbers.{good_more, own_more, times_of}
 use Rattle.run_numbers.specs.declared.numbers.RunApart.{RunApart}
 use Rattle.good_moment.specs.moment_laws.Passing.{SameSlot}

@@ -9,8 +9,9 @@ ghost use Rattle.v_design.specs.Plain.{fault_of};
 ghost use Rattle.v_design.specs.PlainDesigns.{design_of};
 ghost use Rattle.v_design.specs.States.{State};
 ghost use Rattle.faulty_block.specs.block_events.Runners.{IsWhole, machine_of, state_of};
-ghost use Rattle.faulty_block.specs.Runs.{MayRun, RanBlock, StepsWithin, TicksTried};
-ghost use Rattle.faulty_block.specs.block_runner.Beside.{MayGoBeside, TellsBeside};
+ghost use Rattle.faulty_block.specs.Runs.{MayRun, RanBlock, StepsWithin};
+ghost use Rattle.faulty_block.specs.block_runner.Beside.{AreFew, MayGoBeside, TellsBeside};
+ghost use Rattle.faulty_block.specs.block_runner.Ends.{TicksTried};
 ghost use Rattle.good_moment.specs.moment_laws.Shown.{ShowsState};
 ghost use Rattle.faulty_block.specs.moment_shown.Shown.{Shows};
 ghost use Rattle.faulty_block.specs.lockstep_room.Rooms.{AreCounts};
@@ -98,6 +99,7 @@ pub(crate) fn run_beside<N: World, L: Ledger>(
     requires whole { IsWhole runner.old }
     requires run { MayRun (acts_beside behind.now) own.now runner.old }
     requires goods { MayGoBeside (machine_of runner.old) (state_of runner.old) goods.now }
+    requires few { AreFew (machine_of runner.old) goods.now most }
     ensures whole { OnOk result (IsWhole runner.new) }
     ensures machine { OnOk result (machine_of runner.new ≡ faulty_machine (machine_of runner.old).design (fault_of fault)) }
     ensures few { IfOk result (λ ran. IfSome ran (λ taken. taken ≤ most)) }

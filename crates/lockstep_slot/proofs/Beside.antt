@@ -1,5 +1,5 @@
 -- A fault beside a room, from place to place of a slot.
-use Rattle.std.proofs.Common.{◌≡◌, ◌+◌, ◌≤◌, ℕ, Bool, true, false, List, [], ◌∷◌, length, refl, sym, subst, ◌∙◌, arith}
+use Rattle.std.proofs.Common.{◌≡◌, ◌+◌, ◌≤◌, ℕ, Bool, true, false, List, [], ◌∷◌, length, refl, sym, subst, ◌∙◌}
 use Rattle.std.specs.Prelude.{Some, slice_get}
 use Rattle.vf_base.specs.declared.limits.TheConstants.{MAX_END}
 use Rattle.v_design.specs.Designs.{FlatDesign, TestPlan, good_machine}
@@ -89,7 +89,8 @@ site-stays design old new stays there = subst (λ (f : Fault). SiteIsThere desig
 
 module _ (design : FlatDesign) (plan : TestPlan) (from until number : ℕ) where
   -- at the slot's beginning
-  pub begins-beside : StepsGoOn → OwnStepsGoOn → MomentsStand → plan.end ≤ MAX_END → (runner : Runner) (before behind : MomentKept) (at : IsRoomAtSlot design plan from until number runner before behind)
+  pub begins-beside : StepsGoOn → OwnStepsGoOn → MomentsStand → plan.end ≤ MAX_END → (runner : Runner) (before behind : MomentKept) (at : IsRoomAtSlot design plan from until number runner
+      before behind)
       (each : FaultBeside) → GoesBeside design plan from until number (first_place at.first at.later) runner before behind each each
   begins-beside steps owns moments early runner before behind at each = record {
     stays = stays-same each;
@@ -138,7 +139,8 @@ module _ (design : FlatDesign) (plan : TestPlan) (from until number : ℕ) where
         GoesBeside design plan from until number place runner before behind old new → MayGoOnIf design plan from until runner before behind new
     may-go-on runner before behind old new begins goes = λ still.
         let of = begins (goes.stays.before still) in
-        subst (λ (f : Fault). SlotMayGoOn design plan (fault_of f) from until runner before behind new.one.notes new.one.own new.one.spare new.one.tried.items new.one.apart.items) (sym goes.stays.fault)
+        subst (λ (f : Fault). SlotMayGoOn design plan (fault_of f) from until runner before behind new.one.notes new.one.own new.one.spare new.one.tried.items new.one.apart.items) (sym
+        goes.stays.fault)
         (record {
           number = number;
           slot = of.may.slot;
@@ -159,7 +161,8 @@ module _ (design : FlatDesign) (plan : TestPlan) (from until number : ℕ) where
             let begins = own_begins design plan (fault_of old.fault) of.may.time of.may.slot in
             subst (λ (f : Fault). TriedInSlot design (fault_of f) of.may.slot begins new.one.tried.items) goes.stays.fault
             (comes.most is number of.may.slot begins place
-            (subst (λ (f : Fault). SlotGoesOn design plan (fault_of f) of.may.slot begins from until number place runner before behind mid.one.notes mid.one.own mid.one.spare mid.one.tried.items mid.one.apart.items)
+            (subst (λ (f : Fault). SlotGoesOn design plan (fault_of f) of.may.slot begins from until number place runner before behind mid.one.notes mid.one.own mid.one.spare
+            mid.one.tried.items mid.one.apart.items)
             (sym goes.stays.fault) (goes.on is of)))
         go false is =
             subst (TriedInSlot design (fault_of old.fault) of.may.slot (own_begins design plan (fault_of old.fault) of.may.time of.may.slot)) (sym (comes.stays.left is)) (goes.most went of)
@@ -173,10 +176,12 @@ module _ (design : FlatDesign) (plan : TestPlan) (from until number : ℕ) where
           let begins = own_begins design plan (fault_of old.fault) of.may.time of.may.slot in
           let on = goes.on (comes.stays.before still) of in
           subst
-          (λ (f : Fault). PhaseIsThrough design plan (fault_of f) of.may.slot begins from until number place new_runner next later new.one.notes new.one.own new.one.spare new.one.tried.items new.one.apart.items)
+          (λ (f : Fault). PhaseIsThrough design plan (fault_of f) of.may.slot begins from until number place new_runner next later new.one.notes new.one.own new.one.spare
+          new.one.tried.items new.one.apart.items)
           goes.stays.fault
           (comes.through still number of.may.slot begins place
-          (subst (λ (f : Fault). SlotGoesOn design plan (fault_of f) of.may.slot begins from until number place runner before behind mid.one.notes mid.one.own mid.one.spare mid.one.tried.items mid.one.apart.items)
+          (subst (λ (f : Fault). SlotGoesOn design plan (fault_of f) of.may.slot begins from until number place runner before behind mid.one.notes mid.one.own mid.one.spare
+          mid.one.tried.items mid.one.apart.items)
           (sym goes.stays.fault) on));
       most = λ went of. through-most runner before behind new_runner next later old mid new goes comes went of;
     }
@@ -249,7 +254,8 @@ module _ (design : FlatDesign) (plan : TestPlan) (from until number : ℕ) where
         }
 
         -- behind the last phase the slot is through
-        pub comes-behind : StepsGoOn → OwnStepsGoOn → KeptEnds → place.later ≡ [] → BeginsSlotIf design plan from until number old → KeepsAscending new → ComesThroughSlot design plan (from + number) old new
+        pub comes-behind : StepsGoOn → OwnStepsGoOn → KeptEnds → place.later ≡ [] → BeginsSlotIf design plan from until number old → KeepsAscending new → ComesThroughSlot design plan (from
+            + number) old new
         comes-behind steps owns ends last begins up = record {
           stays = through.stays;
           through = λ still slot is.
@@ -257,7 +263,8 @@ module _ (design : FlatDesign) (plan : TestPlan) (from until number : ℕ) where
               let was = through.through still of in
               subst (λ (s : FirstSlot). IsCopyInLockstep design plan (fault_of old.fault) (from + number) s.begins.time (lockstep_differences new.one.own.copy))
               (some-slot of.may.slot slot (sym of.may.stands ∙ is))
-              (slot-through steps owns design plan (fault_of old.fault) from until number old.one.own.copy place.phase place.later new.one.notes new.one.own new.one.spare new.one.tried.items new.one.apart.items of.may ends
+              (slot-through steps owns design plan (fault_of old.fault) from until number old.one.own.copy place.phase place.later new.one.notes new.one.own new.one.spare
+              new.one.tried.items new.one.apart.items of.may ends
               runner before behind
               (record { place = further (length place.left) place; on = was.on; through = further-all place; last = last; clean = was.clean }) up.values up.updates);
           tried = most-there begins;

@@ -1,5 +1,5 @@
 -- Faults through a slot side by side (slots by IEEE 1364-2001, clause 5).
-use Rattle.std.specs.Prelude.{◌≡◌, ℕ, ◌+◌, ◌<◌, ◌≤◌, Bool, true, [], length, Some, slice_get}
+use Rattle.std.specs.Prelude.{◌≡◌, ℕ, ◌+◌, ◌<◌, Bool, true, [], length, Some, slice_get}
 use Rattle.v_design.specs.Designs.{FlatDesign, StuckAt, TestPlan, good_machine}
 use Rattle.v_design.specs.Grades.{phases}
 use Rattle.v_design.specs.Plain.{fault_of}

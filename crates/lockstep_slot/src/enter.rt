@@ -46,12 +46,14 @@ pub fn enter_slot<N: World>(
     notes.clear(first);
     let kept = copy.copied(alloc)?;
     let own = begin_slot(alloc, kept);
+    let tried = Vec::new(alloc);
+    let apart = Vec::new(alloc);
     let one = FaultInSlot {
         own,
         notes,
         spare,
-        tried: Vec::new(alloc),
-        apart: Vec::new(alloc),
+        tried,
+        apart,
     };
     Ok(Some(one))
 }

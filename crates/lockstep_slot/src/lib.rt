@@ -3,7 +3,7 @@
 //! `enter_slot` makes of a fault's copy what goes on of it within a slot, and `all_through_slot` takes all faults that entered a slot of a window through it, side by side: the
 //! room goes once from phase to phase (`lockstep_phase`); turns lead from one to the next, and by each the own nonblocking updates that are due go into lanes as the good
 //! machine's do. Main contract: of each fault that still goes behind the slot, the copy stands in lockstep there; the others left lockstep, and are to be run whole through the
-//! slot, from the copies that they entered with. The counter rises by at most the process steps of the faults' own blocks, and those of each fault are at most the steps of the
+//! slot, from the copies that they entered with. The counter rises by at most the process steps that the faults took themselves, which each fault keeps in `tried`: these are own steps of the
 //! faulty machine's slot.
 #![tactic(auto)]
 
@@ -11,7 +11,5 @@ mod enter;
 mod slot;
 
 pub use enter::{enter_slot, rests};
-pub use lockstep_phase::{
-    FaultBeside, FaultInSlot, LockstepRoom, LockstepWindow, NextTouches,
-};
+pub use lockstep_phase::{FaultBeside, FaultInSlot, LockstepRoom, LockstepWindow, NextTouches};
 pub use slot::all_through_slot;

@@ -24,7 +24,7 @@ use Rattle.machine.specs.Standing.{machine_kept, state_kept, slot_after, begins_
 use Rattle.machine_events.specs.Parts.{AreBothOf}
 use Rattle.machine_events.specs.Turns.{held_in}
 use Rattle.machine_events.specs.PartLaws.{turned-nets, held-is}
-use Rattle.machine.specs.Phases.{Runs}
+use Rattle.machine.specs.Moments.{IsAt}
 use Rattle.machine.proofs.Moved.{moved, rules-of}
 
 pub some-state : (x y : State) → Some x ≡ Some y → x ≡ y
@@ -66,23 +66,15 @@ pub slot-begun : SlotsBegin → SlotsBeginNotes → WritesStay → (begins : Sta
     turn ≡ first_turn old.stage → IsTableOf (machine_kept old) begins (table_of new.table) → IsKept new.table → AreNetsOf new.nets (state_kept old) → machine_kept new ≡ machine_kept old →
     design_of new.graph.now.design.now ≡ design_of old.graph.now.design.now → IsEmptyLog log → BeginsSlot old.record between →
     BeginsPhase turn (table_of new.table).time (held_in (table_of new.table)) between new.record → new.runs.ended.items ≡ [] → runs_so_far new.runs ≡ runs_so_far old.runs →
-    notes_runs new ≡ notes_runs old →
-    Runs (machine_kept old) (first_turn old.stage) begins 0 0 0 new log
+    notes_runs new ≡ notes_runs old → IsAt (machine_kept old) (first_turn old.stage) (first_moment begins) new log
 slot-begun law notes stay_there begins old new log turn between standing next low first table kept nets same graph empty slot phase none stay noted =
     let machine = machine_kept old in
     let both : AreBothOf machine begins new.nets new.table = record { machine_is = same; nets_are = begins-nets old.stage new.nets (state_kept old) begins nets next; table_is = table } in
-    record {
-      at = first_moment begins;
-      is = moved machine (first_turn old.stage) (first_moment begins) new log (law machine begins (standing.begins begins next)) both kept (graph ∙ standing.graph)
-          (phase machine (first_turn old.stage) [] None begins log (slot machine (first_turn old.stage) standing.earlier log standing.causes empty) first (sym table.time)
-          (held-is machine begins (table_of new.table) table)) low
-          (begins-writes stay_there old standing begins next)
-          (λ on. notes machine begins new.runs (subst (AreAtRest (length machine.design.processes)) (sym stay) (standing.rests begins next (sym noted ∙ on))) none);
-      begins_is = refl;
-      steps_is = refl;
-      ticks_are = refl;
-      moves_are = omega arith;
-    }
+    moved machine (first_turn old.stage) (first_moment begins) new log (law machine begins (standing.begins begins next)) both kept (graph ∙ standing.graph)
+    (phase machine (first_turn old.stage) [] None begins log (slot machine (first_turn old.stage) standing.earlier log standing.causes empty) first (sym table.time)
+    (held-is machine begins (table_of new.table) table)) low
+    (begins-writes stay_there old standing begins next)
+    (λ on. notes machine begins new.runs (subst (AreAtRest (length machine.design.processes)) (sym stay) (standing.rests begins next (sym noted ∙ on))) none)
 
 -- there is room for as many objects as the design has
 pub begun-room : (m : Simulated) (between : SlotRecord) (log : SlotLog) → IsStanding m → BeginsSlot m.record between → IsEmptyLog log →

@@ -2,6 +2,7 @@ pub mod Places
 pub mod Moved
 pub mod Events
 pub mod Ticks
+pub mod Counted
 pub mod MovesSoFar
 pub mod TurnsOn
 pub mod Made

@@ -23,10 +23,12 @@ use Rattle.machine_events.specs.Parts.{AreBothOf}
 use Rattle.machine_events.specs.Turns.{held_in, TellsTurn}
 use Rattle.machine_events.specs.PartLaws.{turned-nets, held-is}
 use Rattle.machine.specs.Moments.{IsMovingIn, moves_so_far}
+use Rattle.runs_beside.specs.Beside.{RunsGoBeside}
+use Rattle.machine.specs.declared.guide.Guide.{Guide}
 use Rattle.machine.specs.Phases.{Runs}
 use Rattle.machine.proofs.Moved.{both-at, moved, graph-of}
 use Rattle.machine.proofs.Events.{rules-at}
-use Rattle.machine.proofs.Ticks.{so-far-turn}
+use Rattle.machine.proofs.Counted.{counts-turn}
 use Rattle.machine.proofs.MovesSoFar.{moves-turn}
 
 -- No process has an event
@@ -98,17 +100,17 @@ next-number law m after log logged moving ends =
     omega (arith, few, room, numbered, count)
 
 -- the turn leads to the next moment
-pub turn-moved : TurnsGoOn → PhasesNoteNothing → (machine : Machine) (first : Turn) (begins : State) (steps ticks moves : ℕ) (old new : Simulated) (log logged : SlotLog) (turn : Turn)
-    (between : SlotRecord) → Runs machine first begins steps ticks moves old log → steps ≤ most_steps →
+pub turn-moved : RunsGoBeside → TurnsGoOn → PhasesNoteNothing → (machine : Machine) (first : Turn) (begins : State) (steps : ℕ) (guide : Guide) (before now moves : ℕ) (old new : Simulated) (log logged : SlotLog) (turn : Turn)
+    (between : SlotRecord) → Runs machine first begins steps guide before now moves old log → steps ≤ most_steps →
     IsIdle (state_kept old) → TellsTurn (Some turn) (turn_of (state_kept old)) → EndsPhase (design_of old.graph.now.design.now) old.record between log logged →
     ((state : State) → IsTableOf machine state (table_of old.table) → IsTableOf machine (turned_by (turn_of state) state) (table_of new.table)) → IsKept new.table →
     AreNetsOf new.nets (state_kept old) →
     machine_kept new ≡ machine_kept old → design_of new.graph.now.design.now ≡ design_of old.graph.now.design.now →
-    BeginsPhase turn (table_of new.table).time (held_in (table_of new.table)) between new.record → new.runs ≡ old.runs → notes_runs new ≡ notes_runs old → Runs machine first begins steps ticks (moves + 1) new logged
-turn-moved law quiet machine first begins steps ticks moves old new log logged turn between runs few idle told ends turns kept nets same graph starts noted notes =
+    BeginsPhase turn (table_of new.table).time (held_in (table_of new.table)) between new.record → new.runs ≡ old.runs → notes_runs new ≡ notes_runs old → Runs machine first begins steps guide before now (moves + 1) new logged
+turn-moved beside law quiet machine first begins steps guide before now moves old new log logged turn between runs few idle told ends turns kept nets same graph starts noted notes =
     go (turn_of runs.at.state) refl (subst (λ (s : State). TellsTurn (Some turn) (turn_of s)) runs.is.state_is told)
   where
-    go : (found : Option TurnKind) → turn_of runs.at.state ≡ found → TellsTurn (Some turn) found → Runs machine first begins steps ticks (moves + 1) new logged
+    go : (found : Option TurnKind) → turn_of runs.at.state ≡ found → TellsTurn (Some turn) found → Runs machine first begins steps guide before now (moves + 1) new logged
     go None is tells = absurd tells
     go (Some kind) is tells =
         let at = runs.at in
@@ -121,10 +123,11 @@ turn-moved law quiet machine first begins steps ticks moves old new log logged t
           table_is = table;
         } in
         let recorded : RecordedSlot machine first (phases_so_far at) between logged = ends machine first at.ended _ (sym (graph-of machine first at old log runs.is)) runs.is.recorded in
+        let comes : ComesTo machine (after_turn kind at) =
+        law machine at kind (rules-at machine first at old log runs.is) runs.is.comes (subst (λ n. n ≤ most_steps) (sym runs.steps_is) few) (subst IsIdle runs.is.state_is idle) is tells.0 in
         record {
           at = after_turn kind at;
-          is = moved machine first (after_turn kind at) new logged
-              (law machine at kind (rules-at machine first at old log runs.is) runs.is.comes (subst (λ n. n ≤ most_steps) (sym runs.steps_is) few) (subst IsIdle runs.is.state_is idle) is tells.0)
+          is = moved machine first (after_turn kind at) new logged comes
               both kept (graph ∙ graph-of machine first at old log runs.is)
               (starts machine first (phases_so_far at) (Some kind) next logged recorded (tells.1 first) (sym table.time) (held-is machine next (table_of new.table) table)) runs.is.in_time
               runs.is.writes
@@ -133,6 +136,6 @@ turn-moved law quiet machine first begins steps ticks moves old new log logged t
               (quiet machine at.ended (present_phase at) (Some kind) next old.runs (none-ready machine at runs.is.comes (subst IsIdle runs.is.state_is idle)) (runs.is.runs (sym notes ∙ on))));
           begins_is = runs.begins_is;
           steps_is = runs.steps_is;
-          ticks_are = so-far-turn kind at ∙ runs.ticks_are;
+          counts = counts-turn beside guide machine kind at before now comes runs.counts;
           moves_are = (let more : moves_so_far (after_turn kind at) ≡ moves_so_far at + 1 = moves-turn kind at in let had : moves ≤ moves_so_far at = runs.moves_are in omega (arith, more, had));
         }

@@ -10,6 +10,7 @@ ghost use Rattle.machine.specs.Ticks.{raised_by, process_steps};
 ghost use Rattle.machine.specs.Standing.{IsStanding, RunsSlot, EveryOrderEndsHere, machine_kept, state_kept, begins_next, notes_runs, first_turn};
 
 use crate::end::SlotEnd;
+use crate::guide::Guide;
 use crate::parts::{Machine, Stage};
 use causal_monitor::SlotLog;
 use machine_events::{Told, later_time};
@@ -93,10 +94,8 @@ impl<'d> Machine<'d> {
         ensures notes { IfOk result (λ _. notes_runs self.new ≡ notes_runs self.old) }
         ensures turn { IfOk result (λ _. first_turn self.new.stage ≡ turns.Time) }
     {
-        order_laws::fine_slots();
-        self.begin_slot(log)?;
-        let hyper = self.run(log, steps)?;
-        let end = self.finish(log, hyper)?;
+        let mut guide = Guide::Alone;
+        let end = self.run_slot(log, &mut guide, steps)?;
         Ok(end)
     }
 }

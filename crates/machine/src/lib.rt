@@ -7,12 +7,17 @@
 //! ends of its process runs with each of their steps, and `take_runs` answers those of the slot that was run last, in the order in which they ended; one that notes none
 //! takes no memory for it.
 //!
+//! `slot_beside` runs a slot in the same way, but beside the good machine's runs of its time: what these did the same is brought from there, and the counter ticks at most once for
+//! each own step.
+//!
 //! One machine serves several runs: `clear` makes it that of another fault, `put_value` and `put_process` give it the parts of a state, and after `stand_between` it stands
 //! in that state between two slots of the run of that fault, as if it had come there by itself. `time`, `state_of` and `updates_of` read where it stands.
 #![tactic(auto)]
 
+mod beside;
 mod calls;
 mod end;
+mod guide;
 mod moves;
 mod nodes;
 mod parts;

@@ -1,6 +1,6 @@
 // The moves of a slot.
 
-ghost use Rattle.std.specs.Prelude.{◌≡◌, Some, None, IfOk, OnOk};
+ghost use Rattle.std.specs.Prelude.{◌≡◌, ℕ, Some, None, IfOk, OnOk};
 ghost use Rattle.std.specs.Option.{option_map};
 ghost use Rattle.vf_base.specs.Base.{node_number};
 ghost use Rattle.v_design.specs.States.{Evaluation, turn_of};
@@ -10,9 +10,11 @@ ghost use Rattle.net_state.specs.States.{nodes_in};
 ghost use Rattle.machine.specs.Standing.{state_kept};
 ghost use Rattle.machine.specs.Moments.{IsMovingIn, StaysAt};
 ghost use Rattle.machine_events.specs.Turns.{TellsTurn};
-ghost use Rattle.machine.specs.Ticks.{raised_by};
-ghost use Rattle.machine.specs.Phases.{IsBegun, MakesMove, ComesToEnd, CountsSlot, TurnsPhase, steps_made, ticks_made};
+ghost use Rattle.machine.specs.declared.guide.Guide.{Guide};
+ghost use Rattle.machine.specs.Guides.{IsMovingInBy};
+ghost use Rattle.machine.specs.Phases.{IsBegun, MakesMove, ComesToEnd, TurnsPhase, steps_made};
 
+use crate::guide::Guide;
 use crate::parts::Machine;
 use causal_monitor::{SlotLog, Turn};
 use machine_events::{begin_phase, slot_turn};
@@ -61,6 +63,7 @@ impl<'d> Machine<'d> {
         machine_laws::slot_goes_on();
         machine_laws::phases_are_few();
         run_record::runs_go_on();
+        runs_beside::runs_go_beside();
         self.record.end_phase(self.graph, log)?;
         self.table.turn()?;
         begin_phase(&self.table, &mut self.record, &mut self.told, turn)?;
@@ -75,8 +78,7 @@ impl<'d> Machine<'d> {
     fn turn_move(&mut self, log: &mut SlotLog) -> Result<Made, NoMemory>
         requires moving { IsMovingIn self.old log.old }
         requires idle { IsIdle (state_kept self.old) }
-        ensures makes { IfOk result (λ made. MakesMove made self.old self.new log.old log.new) }
-        ensures ticks { IfOk result (λ made. ticks_made made ≡ 0) }
+        ensures { IfOk result (λ made. (guide : Guide) (now : ℕ) → MakesMove made guide guide now now self.old self.new log.old log.new) }
     {
         match slot_turn(&self.table) {
             Some(turn) => {
@@ -95,17 +97,17 @@ impl<'d> Machine<'d> {
     fn ready_move<L: Ledger>(
         &mut self,
         log: &mut SlotLog,
+        guide: &mut Guide<'_>,
         steps: &mut Steps<L>,
     ) -> Result<Made, NoMemory>
-        requires moving { IsMovingIn self.old log.old }
+        requires moving { IsMovingInBy guide.old steps.old self.old log.old }
         requires nodes { NoNodeWorks (state_kept self.old) }
         requires lanes { first_lane (state_kept self.old) ≡ None }
-        ensures makes { IfOk result (λ made. MakesMove made self.old self.new log.old log.new) }
-        ensures ticks { IfOk result (λ made. steps.new ≡ raised_by (ticks_made made) steps.old) }
+        ensures { IfOk result (λ made. MakesMove made guide.old guide.new steps.old steps.new self.old self.new log.old log.new) }
     {
         match self.table.first_ready() {
             Some(process) => {
-                self.process_step(process, steps)?;
+                self.process_step(guide, process, steps)?;
                 Ok(Made::ProcessStep)
             }
             None => {
@@ -123,20 +125,21 @@ impl<'d> Machine<'d> {
     fn process_move<L: Ledger>(
         &mut self,
         log: &mut SlotLog,
+        guide: &mut Guide<'_>,
         steps: &mut Steps<L>,
     ) -> Result<Made, NoMemory>
-        requires moving { IsMovingIn self.old log.old }
+        requires moving { IsMovingInBy guide.old steps.old self.old log.old }
         requires nodes { NoNodeWorks (state_kept self.old) }
-        ensures makes { IfOk result (λ made. MakesMove made self.old self.new log.old log.new) }
-        ensures ticks { IfOk result (λ made. steps.new ≡ raised_by (ticks_made made) steps.old) }
+        ensures { IfOk result (λ made. MakesMove made guide.old guide.new steps.old steps.new self.old self.new log.old log.new) }
     {
+        runs_beside::runs_go_beside();
         match self.table.first_lane() {
             Some(process) => {
                 self.lane_step(process)?;
                 Ok(Made::LaneStep)
             }
             None => {
-                let made = self.ready_move(log, steps)?;
+                let made = self.ready_move(log, guide, steps)?;
                 Ok(made)
             }
         }
@@ -150,19 +153,20 @@ impl<'d> Machine<'d> {
     fn make_move<L: Ledger>(
         &mut self,
         log: &mut SlotLog,
+        guide: &mut Guide<'_>,
         steps: &mut Steps<L>,
     ) -> Result<Made, NoMemory>
-        requires { IsMovingIn self.old log.old }
-        ensures makes { IfOk result (λ made. MakesMove made self.old self.new log.old log.new) }
-        ensures ticks { IfOk result (λ made. steps.new ≡ raised_by (ticks_made made) steps.old) }
+        requires { IsMovingInBy guide.old steps.old self.old log.old }
+        ensures { IfOk result (λ made. MakesMove made guide.old guide.new steps.old steps.new self.old self.new log.old log.new) }
     {
+        runs_beside::runs_go_beside();
         match self.least_node() {
             Some(node) => {
                 self.node_work(node)?;
                 Ok(Made::Uncounted)
             }
             None => {
-                let made = self.process_move(log, steps)?;
+                let made = self.process_move(log, guide, steps)?;
                 Ok(made)
             }
         }
@@ -176,11 +180,11 @@ impl<'d> Machine<'d> {
     pub(crate) fn run<L: Ledger>(
         &mut self,
         log: &mut SlotLog,
+        guide: &mut Guide<'_>,
         steps: &mut Steps<L>,
     ) -> Result<bool, NoMemory>
-        requires { IsBegun self.old log.old }
-        ensures end { IfOk result (λ hyper. ComesToEnd hyper self.old self.new log.old log.new) }
-        ensures ticks { IfOk result (λ _. CountsSlot self.old log.old steps.old steps.new) }
+        requires { IsBegun guide.old steps.old self.old log.old }
+        ensures { IfOk result (λ hyper. ComesToEnd hyper guide.old guide.new steps.old steps.new self.old self.new log.old log.new) }
     {
         machine_laws::slot_ends();
         let mut taken = 0u32;
@@ -188,7 +192,7 @@ impl<'d> Machine<'d> {
             if taken > MAX_SLOT_STEPS {
                 return Ok(true);
             }
-            let made = self.make_move(log, steps)?;
+            let made = self.make_move(log, guide, steps)?;
             if let Made::Nothing = made {
                 return Ok(false);
             }

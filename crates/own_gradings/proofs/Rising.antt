@@ -1,9 +1,10 @@
 -- The numbers from slot to slot.
-use Rattle.std.proofs.Common.{◌≡◌, ℕ, zero, suc, ◌+◌, ◌<◌, ◌≤◌, Bool, true, false, not, ◌&&◌, List, [], ◌∷◌, ◌++◌, map, refl, sym, ap, subst, ◌∙◌, inl, inr, arith}
-use Rattle.std.specs.Prelude.{Option, Some, None, filter, nat_le, nat_lt, slice_get}
-use Rattle.std.specs.List.{AllZip, sum}
+use Rattle.std.proofs.Common.{◌≡◌, ℕ, zero, suc, ◌+◌, ◌<◌, ◌≤◌, Bool, true, false, not, ◌&&◌, List, [], ◌∷◌, ◌++◌, length, map, refl, sym, ap, subst, ◌∙◌, inl, inr, arith}
+use Rattle.std.specs.Prelude.{Option, Some, None, filter, nat_le, nat_lt, slice_get, sum_by}
+use Rattle.std.specs.List.{AllZip, Contains, sum}
 use Rattle.std.proofs.lemmas.Bool.{cases_lt, le-leb, le-ltb, leb-true, lt-leb, lt-ltb, ltb-true, true≢false}
 use Rattle.std.proofs.lemmas.List.{append-nil}
+use Rattle.std.proofs.lemmas.List.Sums.{sum_by-cons}
 use Rattle.vf_base.specs.Lists.{joined}
 use Rattle.v_design.specs.Designs.{FlatDesign, StuckAt, TestPlan, good_machine, faulty_machine}
 use Rattle.v_design.specs.Runs.{FirstSlot, first_run}
@@ -12,10 +13,10 @@ use Rattle.v_design.specs.WellFormed.{KeepsRules}
 use Rattle.copy_laws.specs.Windows.{HasEnded, RiseAtMostOwn, comes_after, comes_by, good_slots, runs_between, time_at}
 use Rattle.beside_laws.specs.GoodRuns.{GoodRunGoesOn}
 use Rattle.fault_strobes.specs.Said.{plan_by}
-use Rattle.own_gradings.specs.Laws.{AreAtLeast, OwnStepsRise}
-use Rattle.own_gradings.specs.Numbers.{AreOwnSteps, OwnStepsOf, runs_to}
+use Rattle.own_gradings.specs.Laws.{AreAtLeast, GoOn, OwnStepsRise}
+use Rattle.own_gradings.specs.Numbers.{AreOwnSteps, OwnStepsOf, TakesOwn, runs_to}
 use Rattle.own_gradings.proofs.Choices.{bound-holds, exist, time-of}
-use Rattle.own_gradings.proofs.Counts.{Pairs, Part, Parted, filtered, none-in, one-in, same-steps}
+use Rattle.own_gradings.proofs.Counts.{Pairs, Part, Parted, filtered, none-in, one-in, parts, same-steps}
 
 -- Times
 
@@ -201,6 +202,47 @@ module _ (good : GoodRunGoesOn) (design : FlatDesign) (plan : TestPlan) (own : O
       same-steps (runs_beside design (plan_by kept plan) fault) (own.all number kept) steps (own.in_all number fault kept is)
       (record { counts = takes.counts; each = takes.each; total = takes.total })
 
+-- several faults that go on or not
+go-on : GoodRunGoesOn → (design : FlatDesign) (plan : TestPlan) (own : OwnStepsOf design plan) (kept : Bool) (from until : ℕ) (numbers : List ℕ) (faults : List StuckAt) (counts : List ℕ) →
+    KeepsRules design → from ≤ until → GoOn design plan own kept from until numbers faults →
+    AllZip CountsOwn (joined (map (runs_between design (plan_by kept plan) (time_at design plan from) (time_at design plan until)) faults)) counts →
+    sum_by (λ (number : ℕ). own.steps number kept until) numbers ≤ sum_by (λ (number : ℕ). own.steps number kept from) numbers + sum counts
+go-on good design plan own kept from until [] faults counts rules low on each = omega arith
+go-on good design plan own kept from until (number ∷ numbers) faults counts rules low (inl over) each =
+    let rest = go-on good design plan own kept from until numbers faults counts rules low over.1 each in
+    let a = sum_by-cons (λ (n : ℕ). own.steps n kept until) number numbers in
+    let b = sum_by-cons (λ (n : ℕ). own.steps n kept from) number numbers in
+    let same = over.0 in
+    omega (arith, rest, a, b, same)
+go-on good design plan own kept from until (number ∷ numbers) faults counts rules low (inr goes) each =
+    let runs : StuckAt → Pairs = runs_between design (plan_by kept plan) (time_at design plan from) (time_at design plan until) in
+    let here : AllZip CountsOwn (runs goes.0 ++ joined (map runs goes.1)) counts = subst (λ (l : List StuckAt). AllZip CountsOwn (joined (map runs l)) counts) goes.2 each in
+    let cut : Parted (runs goes.0) (joined (map runs goes.1)) (sum counts) = parts (runs goes.0) (joined (map runs goes.1)) (sum counts) (record { counts = counts; each = here; total = refl }) in
+    let one : own.steps number kept until ≡ own.steps number kept from + sum cut.first.counts =
+    between good design plan own number goes.0 kept goes.3 from until cut.first.counts rules low cut.first.each in
+    let rest = go-on good design plan own kept from until numbers goes.1 cut.rest.counts rules low goes.4 cut.rest.each in
+    let a = sum_by-cons (λ (n : ℕ). own.steps n kept until) number numbers in
+    let b = sum_by-cons (λ (n : ℕ). own.steps n kept from) number numbers in
+    let total = cut.total in
+    let left = cut.first.total in
+    let right = cut.rest.total in
+    omega (arith, one, rest, a, b, total, left, right)
+
+-- several faults
+sums-of : GoodRunGoesOn → (design : FlatDesign) (plan : TestPlan) (own : OwnStepsOf design plan) (kept : Bool) (numbers steps : List ℕ) →
+    ((number : ℕ) → Contains numbers number → (fault : StuckAt) × (slice_get plan.faults number ≡ Some fault)) → AllZip (TakesOwn design plan kept) numbers steps →
+    sum_by (λ (number : ℕ). own.all number kept) numbers ≡ sum steps
+sums-of good design plan own kept [] [] listed each = refl
+sums-of good design plan own kept [] (count ∷ steps) listed each = absurd each
+sums-of good design plan own kept (number ∷ numbers) [] listed each = absurd each
+sums-of good design plan own kept (number ∷ numbers) (count ∷ steps) listed each =
+    let here = listed number (0, omega arith, refl) in
+    let one : own.all number kept ≡ count = all-steps good design plan own number here.0 kept here.1 count (each.0 here.0 here.1) in
+    let rest = sums-of good design plan own kept numbers steps (λ other found. listed other (suc found.0, (let low : found.0 < length numbers = found.1 in omega (arith, low)), found.2)) each.1 in
+    let a = sum_by-cons (λ (n : ℕ). own.all n kept) number numbers in
+    let b = sum_by-cons (λ (n : ℕ). n) count steps in
+    omega (arith, one, rest, a, b)
+
 slot-of : (design : FlatDesign) (plan : TestPlan) (fault : StuckAt) (from until : Option ℕ) (behind ahead : List FirstSlot) (slot : FirstSlot) (steps : ℕ) →
     first_run (faulty_machine design fault) plan.end ≡ behind ++ slot ∷ ahead → comes_after from slot.begins.time ≡ true → comes_by until slot.begins.time ≡ true →
     ((ended : ℕ) → HasEnded design plan fault ended → slot.begins.time ≤ ended) →
@@ -218,6 +260,8 @@ own_steps_rise good = record {
   over = λ design plan own number fault kept from until time is rules low at ended. over good design plan own number fault kept is from until time rules low at ended;
   within = λ design plan own number fault kept gone is. within good design plan own number fault kept is gone;
   total = λ design plan own number fault kept steps is takes. all-steps good design plan own number fault kept is steps takes;
+  go_on = go-on good;
+  sums = sums-of good;
   exist = λ design plan low high bound. bound-holds low high (λ fails. exist design plan (λ own. fails (bound own)));
   slot = slot-of;
 }

@@ -1,5 +1,5 @@
 -- Room and faults that have gone on in a phase may go on again.
-use Rattle.std.proofs.Common.{◌≡◌, ℕ, ◌+◌, ◌-◌, ◌≤◌, List, length, drop, true, refl, sym, subst, ◌∙◌, inl, inr, arith}
+use Rattle.std.proofs.Common.{◌≡◌, ℕ, ◌+◌, ◌-◌, List, length, drop, true, refl, sym, subst, ◌∙◌, inl, inr, arith}
 use Rattle.std.proofs.lemmas.Bool.{cases_Bool, false_from_ne_true, false≢true}
 use Rattle.std.proofs.lemmas.List.{length-drop}
 use Rattle.v_design.specs.Designs.{FlatDesign, TestPlan}
@@ -59,7 +59,8 @@ module _ (design : FlatDesign) (plan : TestPlan) (from until : ℕ) (moments : L
         (λ each ahead. record {
           stays = stays-same each;
           come = λ goes number slot begins place on ends.
-              come-first design plan (fault_of each.fault) slot begins from until number place runner before behind each.one.notes each.one.own each.one.spare each.one.tried.items each.one.apart.items on;
+              come-first design plan (fault_of each.fault) slot begins from until number place runner before behind each.one.notes each.one.own each.one.spare each.one.tried.items
+              each.one.apart.items on;
           most = λ goes number slot begins place on ends low. low;
           ahead = ahead;
         })
@@ -87,7 +88,8 @@ module _ (design : FlatDesign) (plan : TestPlan) (from until : ℕ) (moments : L
                 new.one.spare new.one.tried.items new.one.apart.items) (sym has.stays.fault) come.on;
           };
           ends =
-              come-ends design plan (fault_of old.fault) may.slot may.begins from until may.number may.place before.moment end next_runner next later new.one.notes new.one.own new.one.spare new.one.tried.items new.one.apart.items come
+              come-ends design plan (fault_of old.fault) may.slot may.begins from until may.number may.place before.moment end next_runner next later new.one.notes new.one.own new.one.spare
+              new.one.tried.items new.one.apart.items come
               on.ends;
         }
 
@@ -125,10 +127,13 @@ module _ (design : FlatDesign) (plan : TestPlan) (from until : ℕ) (moments : L
             let further_on =
             two.come goes number slot begins (further come.count place)
             (subst
-            (λ (f : Fault). SlotGoesOn design plan (fault_of f) slot begins from until number (further come.count place) next_runner next later each.one.notes each.one.own each.one.spare each.one.tried.items each.one.apart.items)
+            (λ (f : Fault). SlotGoesOn design plan (fault_of f) slot begins from until number (further come.count place) next_runner next later each.one.notes each.one.own each.one.spare
+            each.one.tried.items each.one.apart.items)
             (sym one.stays.fault) come.on)
-            (come-ends design plan (fault_of old.fault) slot begins from until number place before.moment end next_runner next later each.one.notes each.one.own each.one.spare each.one.tried.items each.one.apart.items come ends) in
-            come-more design plan (fault_of old.fault) slot begins from until number place before.moment next_runner next later each.one.notes each.one.own each.one.spare each.one.tried.items each.one.apart.items last_runner last
+            (come-ends design plan (fault_of old.fault) slot begins from until number place before.moment end next_runner next later each.one.notes each.one.own each.one.spare
+            each.one.tried.items each.one.apart.items come ends) in
+            come-more design plan (fault_of old.fault) slot begins from until number place before.moment next_runner next later each.one.notes each.one.own each.one.spare
+            each.one.tried.items each.one.apart.items last_runner last
             last_behind new.one.notes new.one.own new.one.spare new.one.tried.items new.one.apart.items come
             (subst
             (λ (f : Fault). HasComeOn design plan (fault_of f) slot begins from until number (further come.count place) next.moment last_runner last last_behind new.one.notes new.one.own
@@ -143,7 +148,8 @@ module _ (design : FlatDesign) (plan : TestPlan) (from until : ℕ) (moments : L
                   (subst
                   (λ (f : Fault). SlotGoesOn design plan (fault_of f) slot begins from until number (further come.count place) next_runner next later each.one.notes each.one.own each.one.spare
                   each.one.tried.items each.one.apart.items) (sym one.stays.fault) come.on)
-                  (come-ends design plan (fault_of old.fault) slot begins from until number place before.moment end next_runner next later each.one.notes each.one.own each.one.spare each.one.tried.items each.one.apart.items
+                  (come-ends design plan (fault_of old.fault) slot begins from until number place before.moment end next_runner next later each.one.notes each.one.own each.one.spare
+                  each.one.tried.items each.one.apart.items
                   come ends)
                   (subst (λ (f : Fault). TriedInSlot design (fault_of f) slot begins each.one.tried.items) (sym one.stays.fault) so_far))
               | inr stopped ↦ subst (TriedInSlot design (fault_of old.fault) slot begins) (sym (two.stays.left stopped)) so_far

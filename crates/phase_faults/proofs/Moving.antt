@@ -66,15 +66,18 @@ module _ (laws : PhaseLaws) (design : FlatDesign) (plan : TestPlan) (from until 
     (next later : MomentKept) where
   -- a fault moves with the room up to its stop
   moves-one : (each : FaultBeside) → next.moment ≤ each.until → IsAhead design plan from until moments before.moment end each → (number : ℕ) (slot : FirstSlot) (begins : State) (place : Place) →
-      SlotGoesOn design plan (fault_of each.fault) slot begins from until number place runner before behind each.one.notes each.one.own each.one.spare each.one.tried.items each.one.apart.items → (count : ℕ) →
+      SlotGoesOn design plan (fault_of each.fault) slot begins from until number place runner before behind each.one.notes each.one.own each.one.spare each.one.tried.items
+      each.one.apart.items → (count : ℕ) →
       next.moment ≡ before.moment + count → StopsAt design place before.moment next.moment count → IsRoomIn design plan from until number (further count place) next_runner next later →
-      HasComeOn design plan (fault_of each.fault) slot begins from until number place before.moment next_runner next later each.one.notes each.one.own each.one.spare each.one.tried.items each.one.apart.items
+      HasComeOn design plan (fault_of each.fault) slot begins from until number place before.moment next_runner next later each.one.notes each.one.own each.one.spare each.one.tried.items
+      each.one.apart.items
   moves-one each low ahead number slot begins place on count moment stops room = record {
     count = count;
     within = stops.within;
     moment_is = moment;
     on =
-        passes-on design plan (fault_of each.fault) slot begins from until number place runner before behind each.one.notes each.one.own each.one.spare each.one.tried.items each.one.apart.items on laws.steps laws.owns laws.limits count
+        passes-on design plan (fault_of each.fault) slot begins from until number place runner before behind each.one.notes each.one.own each.one.spare each.one.tried.items
+        each.one.apart.items on laws.steps laws.owns laws.limits count
         next_runner next later room moment stops
         (left-within design (site_of each.fault.site) each.one.own.copy (window_events design plan from until) before.moment each.until before.moment next.moment (omega arith) low
         ahead.alone);
@@ -200,9 +203,11 @@ module _ (laws : PhaseLaws) (design : FlatDesign) (plan : TestPlan) (from until 
 
     -- a fault whose stop is ahead moves with the room
     late-one : (each : FaultBeside) → before.moment < each.until → IsAhead design plan from until moments before.moment end each → (number : ℕ) (slot : FirstSlot) (begins : State)
-        (place : Place) → SlotGoesOn design plan (fault_of each.fault) slot begins from until number place runner before behind each.one.notes each.one.own each.one.spare each.one.tried.items each.one.apart.items →
+        (place : Place) → SlotGoesOn design plan (fault_of each.fault) slot begins from until number place runner before behind each.one.notes each.one.own each.one.spare
+        each.one.tried.items each.one.apart.items →
         PhaseEndsAt before.moment place end →
-        HasComeOn design plan (fault_of each.fault) slot begins from until number place before.moment next_runner next later each.one.notes each.one.own each.one.spare each.one.tried.items each.one.apart.items
+        HasComeOn design plan (fault_of each.fault) slot begins from until number place before.moment next_runner next later each.one.notes each.one.own each.one.spare each.one.tried.items
+        each.one.apart.items
     late-one each late ahead number slot begins place on ends =
         let goes = (over number place on.room (left-some place ends more)).0 in
         moves-one laws design plan from until moments end runner before behind next_runner next later each (behind-stop each late ahead number place on.room ends goes) ahead number slot begins
@@ -211,18 +216,22 @@ module _ (laws : PhaseLaws) (design : FlatDesign) (plan : TestPlan) (from until 
     -- and one that took a block of its own is behind that
     own-one : (counts : Counts) (old new : FaultBeside) → TakesOwn design plan from until moments end runner before later counts old new → AreCounts design counts →
         old.until ≤ before.moment → new.goes ≡ true → (number : ℕ) (slot : FirstSlot) (begins : State) (place : Place) →
-        SlotGoesOn design plan (fault_of old.fault) slot begins from until number place runner before behind old.one.notes old.one.own old.one.spare old.one.tried.items old.one.apart.items → PhaseEndsAt before.moment place end →
-        HasComeOn design plan (fault_of old.fault) slot begins from until number place before.moment next_runner next later new.one.notes new.one.own new.one.spare new.one.tried.items new.one.apart.items
+        SlotGoesOn design plan (fault_of old.fault) slot begins from until number place runner before behind old.one.notes old.one.own old.one.spare old.one.tried.items old.one.apart.items
+        → PhaseEndsAt before.moment place end →
+        HasComeOn design plan (fault_of old.fault) slot begins from until number place before.moment next_runner next later new.one.notes new.one.own new.one.spare new.one.tried.items
+        new.one.apart.items
     unfolding may-run-own
     own-one counts old new takes counted now goes number slot begins place on ends =
         let some = left-some place ends more in
         let ahead = taken.ahead place on.room.at.behind_at some in
         let all = over number place on.room some in
         let gone =
-        goes-further design plan (fault_of old.fault) slot begins from until number place runner before behind later old.one.notes old.one.own old.one.spare old.one.tried.items old.one.apart.items on ahead next_runner next new.one.notes
+        goes-further design plan (fault_of old.fault) slot begins from until number place runner before behind later old.one.notes old.one.own old.one.spare old.one.tried.items
+        old.one.apart.items on ahead next_runner next new.one.notes
         new.one.own new.one.spare new.one.tried.items new.one.apart.items all.0 all.1.0 all.1.1
         (takes.took now goes
-        (may-run-own design plan (fault_of old.fault) slot begins from until number place runner before behind later old.one.notes old.one.own old.one.spare old.one.tried.items old.one.apart.items on ahead counts counted)) in
+        (may-run-own design plan (fault_of old.fault) slot begins from until number place runner before behind later old.one.notes old.one.own old.one.spare old.one.tried.items
+        old.one.apart.items on ahead counts counted)) in
         record { count = gone.count; within = gone.within; moment_is = gone.moment_is; on = gone.on }
 
     -- of the process steps of which its slot has no fewer
@@ -234,7 +243,8 @@ module _ (laws : PhaseLaws) (design : FlatDesign) (plan : TestPlan) (from until 
     own-most counts old new takes counted now goes number slot begins place on ends =
         let ahead = taken.ahead place on.room.at.behind_at (left-some place ends more) in
         takes.most now goes
-        (may-run-own design plan (fault_of old.fault) slot begins from until number place runner before behind later old.one.notes old.one.own old.one.spare old.one.tried.items old.one.apart.items on ahead counts
+        (may-run-own design plan (fault_of old.fault) slot begins from until number place runner before behind later old.one.notes old.one.own old.one.spare old.one.tried.items
+        old.one.apart.items on ahead counts
         counted)
 
     module _ (time : ℕ) (counts counts_new : Counts) (faults faults_new : List FaultBeside) (may : FaultsMayGo design plan from until time moments end runner before behind counts faults) where
@@ -246,7 +256,8 @@ module _ (laws : PhaseLaws) (design : FlatDesign) (plan : TestPlan) (from until 
         come = λ goes number slot begins place on ends. elim (cases_lt before.moment old.until) [
           | inl late ↦
               subst
-              (λ (e : FaultBeside). HasComeOn design plan (fault_of old.fault) slot begins from until number place before.moment next_runner next later e.one.notes e.one.own e.one.spare e.one.tried.items e.one.apart.items)
+              (λ (e : FaultBeside). HasComeOn design plan (fault_of old.fault) slot begins from until number place before.moment next_runner next later e.one.notes e.one.own e.one.spare
+              e.one.tried.items e.one.apart.items)
               (sym (takes.late late)) (late-one old late (holds.1 (takes.stays.before goes)) number slot begins place on ends)
           | inr now ↦ own-one counts old new takes may.counts_are now goes number slot begins place on ends
         ];

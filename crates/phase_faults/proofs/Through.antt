@@ -4,16 +4,12 @@ use Rattle.std.specs.Prelude.{Some}
 use Rattle.std.proofs.lemmas.Option.{slice_get-get_or}
 use Rattle.std.specs.List.{AllZip, sum_by}
 use Rattle.vf_base.specs.Lists.{AllHold}
-use Rattle.v_design.specs.Designs.{FlatDesign, StuckAt, TestPlan, faulty_machine}
+use Rattle.v_design.specs.Designs.{FlatDesign, TestPlan}
 use Rattle.v_design.specs.Plain.{fault_of, site_of}
-use Rattle.v_design.specs.Runs.{FirstSlot}
-use Rattle.v_design.specs.States.{State}
-use Rattle.machine_laws.specs.SlotLoop.{slot_from}
 use Rattle.slot_laws.specs.block_events.declared.runner.Runner.{Runner}
 use Rattle.slot_laws.specs.copy_skip.Limits.{SiteIsThere}
 use Rattle.slot_laws.specs.lockstep_block.Blocks.{TriedInSlot}
 use Rattle.slot_laws.specs.lockstep_block.declared.room.FaultInSlot.{FaultInSlot}
-use Rattle.slot_laws.specs.lockstep_copy.declared.own.LockstepCopy.{LockstepCopy}
 use Rattle.slot_laws.specs.lockstep_filter.Phases.{IsPhaseNoted}
 use Rattle.slot_laws.specs.lockstep_places.Places.{PlacesTold}
 use Rattle.slot_laws.specs.lockstep_room.declared.counts.Counts.{Counts}
@@ -21,7 +17,6 @@ use Rattle.slot_laws.specs.lockstep_room.Rooms.{AreCounts}
 use Rattle.slot_laws.specs.lockstep_slots.Places.{Place}
 use Rattle.slot_laws.specs.lockstep_steps.Laws.{StepsGoOn}
 use Rattle.slot_laws.specs.moment_laws.Shown.{MomentKept}
-use Rattle.race_notes.specs.Notes.{NotesKept}
 use Rattle.slot_laws.specs.graded_steps.Behind.{RisesWithin}
 use Rattle.window_blocks.specs.Kept.{AreBlocksOf, BlocksKept}
 use Rattle.slot_laws.specs.Slots.{IsRoomIn, PhaseEndsAt, SlotGoesOn, SlotMayGoOn, further}
@@ -30,7 +25,8 @@ use Rattle.slot_laws.proofs.Going.{are-processes, are-there, clean, noted, tried
 use Rattle.slot_laws.proofs.Phases.{come-through}
 use Rattle.slot_laws.proofs.Rooms.{time-stays}
 use Rattle.slot_laws.proofs.Stops.{ends-there, phase-end, phase-there}
-use Rattle.phase_faults.specs.Beside.{AsksFilter, ComesThroughPhase, FaultsMayGo, HasComeBeside, HasSite, HaveGoneOn, IsAheadIf, IsRoomSomewhere, IsThereIf, LooksAhead, MayGoOnIf, PhaseGoesOnIf, ticked_of}
+use Rattle.phase_faults.specs.Beside.{AsksFilter, ComesThroughPhase, FaultsMayGo, HasComeBeside, HasSite, HaveGoneOn}
+use Rattle.phase_faults.specs.Beside.{IsAheadIf, IsRoomSomewhere, IsThereIf, LooksAhead, MayGoOnIf, PhaseGoesOnIf, ticked_of}
 use Rattle.phase_faults.specs.declared.beside.FaultBeside.{FaultBeside}
 use Rattle.phase_faults.proofs.Lists.{hold-map, sum-same, zip-holds, zip-join}
 
@@ -63,10 +59,12 @@ module _ (design : FlatDesign) (plan : TestPlan) (from until : ℕ) (moments : L
       let may = go goes in
       record {
         objects =
-            are-there design plan (fault_of each.fault) may.slot may.begins from until before.moment may.place before each.one.notes each.one.own each.one.spare each.one.tried.items each.one.apart.items may.on.room.at.before_at
+            are-there design plan (fault_of each.fault) may.slot may.begins from until before.moment may.place before each.one.notes each.one.own each.one.spare each.one.tried.items
+            each.one.apart.items may.on.room.at.before_at
             may.on.goes;
         processes =
-            are-processes design plan (fault_of each.fault) may.slot may.begins from until before.moment may.place before each.one.notes each.one.own each.one.spare each.one.tried.items each.one.apart.items may.on.room.at.before_at
+            are-processes design plan (fault_of each.fault) may.slot may.begins from until before.moment may.place before each.one.notes each.one.own each.one.spare each.one.tried.items
+            each.one.apart.items may.on.room.at.before_at
             may.on.goes;
       }
 
@@ -145,14 +143,17 @@ module _ (design : FlatDesign) (plan : TestPlan) (from until : ℕ) (moments : L
                 let same : next.moment ≡ end = omega (arith, within, at, there, past) in
                 let last =
                 subst
-                (λ (o : FaultInSlot). SlotGoesOn design plan (fault_of old.fault) slot begins from until number (further (length place.left) place) next_runner next later o.notes o.own o.spare o.tried.items
+                (λ (o : FaultInSlot). SlotGoesOn design plan (fault_of old.fault) slot begins from until number (further (length place.left) place) next_runner next later o.notes o.own
+                o.spare o.tried.items
                 o.apart.items)
                 (sym one)
-                (come-through design plan (fault_of old.fault) slot begins from until number place before.moment end next_runner next later each.one.notes each.one.own each.one.spare each.one.tried.items each.one.apart.items come there
+                (come-through design plan (fault_of old.fault) slot begins from until number place before.moment end next_runner next later each.one.notes each.one.own each.one.spare
+                each.one.tried.items each.one.apart.items come there
                 past) in
                 let all = further-all place in
                 let told =
-                noted design plan (fault_of old.fault) slot begins from until number (further (length place.left) place) next_runner next later new.one.notes new.one.own new.one.spare new.one.tried.items new.one.apart.items last all in
+                noted design plan (fault_of old.fault) slot begins from until number (further (length place.left) place) next_runner next later new.one.notes new.one.own new.one.spare
+                new.one.tried.items new.one.apart.items last all in
                 let free =
                 asks.free goes (fault_of old.fault) (further (length place.left) place) last.goes.at last.goes.pairs
                 (subst
@@ -160,13 +161,15 @@ module _ (design : FlatDesign) (plan : TestPlan) (from until : ℕ) (moments : L
                 record {
                   on = last;
                   clean =
-                      clean design plan (fault_of old.fault) slot begins from until number (further (length place.left) place) next_runner next later new.one.notes new.one.own new.one.spare new.one.tried.items new.one.apart.items last
+                      clean design plan (fault_of old.fault) slot begins from until number (further (length place.left) place) next_runner next later new.one.notes new.one.own new.one.spare
+                      new.one.tried.items new.one.apart.items last
                       steps all free;
                 };
             most = λ goes number slot begins place on.
                 subst (λ (o : FaultInSlot). TriedInSlot design (fault_of old.fault) slot begins o.tried.items) (sym one)
                 (has.most goes number slot begins place on (ends number place on.room)
-                (tried-there design plan (fault_of old.fault) slot begins from until number place runner before behind old.one.notes old.one.own old.one.spare old.one.tried.items old.one.apart.items on));
+                (tried-there design plan (fault_of old.fault) slot begins from until number place runner before behind old.one.notes old.one.own old.one.spare old.one.tried.items
+                old.one.apart.items on));
           }
 
       pub all-through : (counts counts_new : Counts) (faults looked gone asked : List FaultBeside) → AllZip (LooksAhead design plan from until moments before.moment end) faults looked →

@@ -49,7 +49,8 @@ module _ (design : FlatDesign) (plan : TestPlan) (time : ℕ) (runner : Runner) 
 
   module _ (from until : ℕ) (now : before.time ≡ time) where
     -- a fault may still take a block of its own
-    unfoldable pub own-again : (fault : StuckAt) (notes : NotesKept) (own : LockstepCopy) (spare : ℕ) (tried : List TriedStep) (apart : List RunApart) → MayRunOwn design plan fault from until runner before behind counts notes own spare tried apart →
+    unfoldable pub own-again : (fault : StuckAt) (notes : NotesKept) (own : LockstepCopy) (spare : ℕ) (tried : List TriedStep) (apart : List RunApart) → MayRunOwn design plan fault from
+        until runner before behind counts notes own spare tried apart →
         MayRunOwn design plan fault from until waiting before_now behind_now counts_now notes own spare tried apart
     own-again fault notes own spare tried apart of = record {
       slot = of.slot;
@@ -73,6 +74,10 @@ module _ (design : FlatDesign) (plan : TestPlan) (time : ℕ) (runner : Runner) 
       };
       goes = subst (λ (m : MomentKept). FaultGoes design plan fault of.slot of.begins from until m.moment of.place notes own spare tried apart) (sym waits.before_is) of.goes;
       early = of.early;
+      within = record {
+        before_is = ap (λ (m : MomentKept). m.before) waits.before_is ∙ of.within.before_is;
+        through_is = ap (λ (m : MomentKept). m.through) waits.before_is ∙ of.within.through_is;
+      };
     }
 
     -- what one did since is what it did from the first on
@@ -84,9 +89,11 @@ module _ (design : FlatDesign) (plan : TestPlan) (time : ℕ) (runner : Runner) 
       late = λ late. takes.late (subst (λ (m : MomentKept). m.moment < old.until) (sym waits.before_is) late);
       took = λ here goes of.
           subst
-          (λ (m : MomentKept). FaultGoes design plan (fault_of old.fault) of.slot of.begins from until m.moment (behind_events of.block of.rest of.place) new.one.notes new.one.own new.one.spare new.one.tried.items new.one.apart.items)
+          (λ (m : MomentKept). FaultGoes design plan (fault_of old.fault) of.slot of.begins from until m.moment (behind_events of.block of.rest of.place) new.one.notes new.one.own
+          new.one.spare new.one.tried.items new.one.apart.items)
           waits.behind_is
-          (takes.took (subst (λ (m : MomentKept). old.until ≤ m.moment) (sym waits.before_is) here) goes (own-again (fault_of old.fault) old.one.notes old.one.own old.one.spare old.one.tried.items old.one.apart.items of));
+          (takes.took (subst (λ (m : MomentKept). old.until ≤ m.moment) (sym waits.before_is) here) goes (own-again (fault_of old.fault) old.one.notes old.one.own old.one.spare
+          old.one.tried.items old.one.apart.items of));
       most = λ here goes of.
           takes.most (subst (λ (m : MomentKept). old.until ≤ m.moment) (sym waits.before_is) here) goes
           (own-again (fault_of old.fault) old.one.notes old.one.own old.one.spare old.one.tried.items old.one.apart.items of);

@@ -6,7 +6,6 @@ use Rattle.v_design.specs.Designs.{FlatDesign, StuckAt, TestPlan}
 use Rattle.v_design.specs.Plain.{fault_of, site_of}
 use Rattle.v_design.specs.Runs.{FirstSlot}
 use Rattle.v_design.specs.States.{State}
-use Rattle.v_design.specs.declared.plan.Fault.{Fault}
 use Rattle.machine_laws.specs.SlotLoop.{Moment}
 use Rattle.trace_window.specs.Moments.{window_events}
 use Rattle.slot_laws.specs.block_events.declared.runner.Runner.{Runner}
@@ -70,7 +69,8 @@ pub record ComesThroughPhase (design : FlatDesign) (plan : TestPlan) (from until
   pub stays : StaysBeside old new
   pub through : new.goes ≡ true → (number : ℕ) (slot : FirstSlot) (begins : State) (place : Place) →
       SlotGoesOn design plan (fault_of old.fault) slot begins from until number place runner before behind old.one.notes old.one.own old.one.spare old.one.tried.items old.one.apart.items →
-      PhaseIsThrough design plan (fault_of old.fault) slot begins from until number place runner_new before_new behind_new new.one.notes new.one.own new.one.spare new.one.tried.items new.one.apart.items
+      PhaseIsThrough design plan (fault_of old.fault) slot begins from until number place runner_new before_new behind_new new.one.notes new.one.own new.one.spare new.one.tried.items
+      new.one.apart.items
   pub most : old.goes ≡ true → (number : ℕ) (slot : FirstSlot) (begins : State) (place : Place) →
       SlotGoesOn design plan (fault_of old.fault) slot begins from until number place runner before behind old.one.notes old.one.own old.one.spare old.one.tried.items old.one.apart.items →
       TriedInSlot design (fault_of old.fault) slot begins new.one.tried.items
@@ -103,7 +103,8 @@ pub record TakesOwn (design : FlatDesign) (plan : TestPlan) (from until : ℕ) (
   pub late : before.moment < old.until → new ≡ old
   pub took : old.until ≤ before.moment → new.goes ≡ true →
       (of : MayRunOwn design plan (fault_of old.fault) from until runner before behind counts old.one.notes old.one.own old.one.spare old.one.tried.items old.one.apart.items) →
-      FaultGoes design plan (fault_of old.fault) of.slot of.begins from until behind.moment (behind_events of.block of.rest of.place) new.one.notes new.one.own new.one.spare new.one.tried.items new.one.apart.items
+      FaultGoes design plan (fault_of old.fault) of.slot of.begins from until behind.moment (behind_events of.block of.rest of.place) new.one.notes new.one.own new.one.spare
+      new.one.tried.items new.one.apart.items
   pub most : old.until ≤ before.moment → old.goes ≡ true →
       (of : MayRunOwn design plan (fault_of old.fault) from until runner before behind counts old.one.notes old.one.own old.one.spare old.one.tried.items old.one.apart.items) →
       TriedInSlot design (fault_of old.fault) of.slot of.begins new.one.tried.items
@@ -150,8 +151,10 @@ pub record HasComeBeside (design : FlatDesign) (plan : TestPlan) (from until : �
     (before_new behind_new : MomentKept) (old new : FaultBeside) : Type 0 where
   pub stays : StaysBeside old new
   pub come : new.goes ≡ true → (number : ℕ) (slot : FirstSlot) (begins : State) (place : Place) →
-      SlotGoesOn design plan (fault_of old.fault) slot begins from until number place runner before behind old.one.notes old.one.own old.one.spare old.one.tried.items old.one.apart.items → PhaseEndsAt before.moment place end →
-      HasComeOn design plan (fault_of old.fault) slot begins from until number place before.moment runner_new before_new behind_new new.one.notes new.one.own new.one.spare new.one.tried.items new.one.apart.items
+      SlotGoesOn design plan (fault_of old.fault) slot begins from until number place runner before behind old.one.notes old.one.own old.one.spare old.one.tried.items old.one.apart.items →
+      PhaseEndsAt before.moment place end →
+      HasComeOn design plan (fault_of old.fault) slot begins from until number place before.moment runner_new before_new behind_new new.one.notes new.one.own new.one.spare
+      new.one.tried.items new.one.apart.items
   pub most : old.goes ≡ true → (number : ℕ) (slot : FirstSlot) (begins : State) (place : Place) →
       SlotGoesOn design plan (fault_of old.fault) slot begins from until number place runner before behind old.one.notes old.one.own old.one.spare old.one.tried.items old.one.apart.items →
       PhaseEndsAt before.moment place end → TriedInSlot design (fault_of old.fault) slot begins old.one.tried.items → TriedInSlot design (fault_of old.fault) slot begins new.one.tried.items

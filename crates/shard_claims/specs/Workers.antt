@@ -2,6 +2,7 @@
 use Rattle.std.specs.Prelude.{◌≡◌, ℕ, Bool, true, false, IsTrue, List, [], map, length, if◌then◌else◌}
 use Rattle.std.specs.List.{All}
 use Rattle.v_design.specs.Designs.{FlatDesign, TestPlan}
+use Rattle.own_gradings.specs.Numbers.{OwnStepsOf}
 use Rattle.copy_shard.specs.Shards.{places_of}
 pub use Rattle.copy_shard.specs.Together.{claimed_steps}
 use Rattle.fault_shards.specs.Cuts.{shard, shard_count}
@@ -40,8 +41,8 @@ module _ {N : Type 0} where
 
   -- Workers
 
-  -- those of a worker's shards, once it has claimed
-  abbrev pub worker_steps : FlatDesign → TestPlan → Worker N → ℕ
+  -- the own steps of the faults of a worker's shards, once it has claimed
+  abbrev pub worker_steps : {design : FlatDesign} {plan : TestPlan} → OwnStepsOf design plan → Worker N → ℕ
   worker_steps tally worker = if worker.dry then claimed_steps tally worker.shards.items else 0
 
   -- a seat that has drawn no claim, moved no word, and has the share of one worker

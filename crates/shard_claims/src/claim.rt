@@ -1,7 +1,8 @@
 // The first round of a worker, which claims shards until none is left.
 
-ghost use Rattle.std.specs.Prelude.{◌≡◌, ◌+◌, ◌*◌, ◌<◌, ◌≤◌, length, IfOk};
+ghost use Rattle.std.specs.Prelude.{◌≡◌, ◌+◌, ◌<◌, ◌≤◌, length, IfOk};
 ghost use Rattle.copy_shard.specs.Shards.{places_of, shard_steps};
+ghost use Rattle.own_gradings.specs.Numbers.{OwnStepsOf};
 ghost use Rattle.fault_shards.specs.Cuts.{shard, shard_count};
 ghost use Rattle.fault_shards.specs.Shards.{representatives_of};
 ghost use Rattle.shard_claims.specs.Workers.{IsPlaceOf, IsNewSeat, HasClaimed, claimed_steps};
@@ -27,7 +28,7 @@ fn begin_shard<'d, N: World, G, L: Ledger>(
     requires first { round.now.window.now.before ≡ 0 }
     ensures faults { IfOk result (λ own. places_of own.faults ≡ shard number (representatives_of round.now.shards.now)) }
     ensures gone { IfOk result (λ own. own.gone ≡ round.now.window.now.through) }
-    ensures ticks { IfOk result (λ own. steps.new ≤ steps.old + 2 * shard_steps N.design N.plan own) }
+    ensures ticks { IfOk result (λ own. (tally : OwnStepsOf N.design N.plan) → steps.new ≤ steps.old + shard_steps tally own) }
 {
     fault_shards::shards_cover();
     let faults = round.shards.shard(number);
@@ -53,7 +54,7 @@ pub(crate) fn claim_all<'d, N: World, G: Gate, L: Ledger>(
     requires first { round.now.window.now.before ≡ 0 }
     requires new { IsNewSeat round.now.board.now seat }
     ensures claimed { IfOk result (λ claimed. HasClaimed (representatives_of round.now.shards.now) round.now.board.now round.now.window.now.through claimed.0 claimed.1.items) }
-    ensures ticks { IfOk result (λ claimed. steps.new ≤ steps.old + 2 * claimed_steps N.design N.plan claimed.1.items) }
+    ensures ticks { IfOk result (λ claimed. (tally : OwnStepsOf N.design N.plan) → steps.new ≤ steps.old + claimed_steps tally claimed.1.items) }
 {
     let mut seat = seat;
     let mut shards = Vec::new(alloc);

@@ -4,7 +4,7 @@ ghost use Rattle.std.specs.Prelude.{◌≡◌, OnOk};
 ghost use Rattle.std.specs.List.{All};
 ghost use Rattle.fault_shards.specs.Shards.{representatives_of};
 ghost use Rattle.copy_shard.specs.Together.{claimed_steps};
-ghost use Rattle.copy_shard.specs.graded_steps.Behind.{RisesTwice};
+ghost use Rattle.own_gradings.specs.Numbers.{RisesOwn};
 ghost use Rattle.shard_claims.specs.Workers.{IsClaimed, numbers_of};
 
 use crate::round::Round;

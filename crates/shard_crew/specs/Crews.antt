@@ -3,7 +3,7 @@ use Rattle.std.specs.Prelude.{◌≡◌, ℕ, ◌+◌, ◌*◌, ◌^◌, IsTrue,
 use Rattle.std.specs.List.{All, flat_map}
 use Rattle.copy_laws.specs.Windows.{good_slots}
 use Rattle.shard_claims.specs.copy_shard.Shards.{fault_steps_at, places_of, findings_of}
-use Rattle.shard_claims.specs.graded_steps.Behind.{RisesWithin}
+use Rattle.own_gradings.specs.Numbers.{OwnStepsOf, RisesOwn}
 use Rattle.fault_shards.specs.Found.{found_faults}
 use Rattle.verdict_settle.specs.Harvests.{IsHarvest, claimed_faults}
 use Rattle.verdict_words.specs.Seats.{view, IsSeatOf}
@@ -16,9 +16,9 @@ use Rattle.v_design.specs.Designs.{FlatDesign, TestPlan}
 use Rattle.shard_claims.specs.Workers.{IsWorkerAt, worker_steps, KeepsShards}
 use Rattle.shard_crew.specs.declared.gathered.Gathered.{Gathered}
 
--- some counters rose together by no more than twice what one number is above another
-pub record RoseTwice (from to : ℕ) (before after : List ℕ) : Type 0 where
-  pub rises : RisesWithin from to (sum before) (sum after)
+-- some counters rose together by no more than one number is above another, both made of the own steps of faults
+pub record RoseOwn (design : FlatDesign) (plan : TestPlan) (from to : OwnStepsOf design plan → ℕ) (before after : List ℕ) : Type 0 where
+  pub rises : RisesOwn design plan from to (sum before) (sum after)
 
 module _ {N : Type 0} where
   -- Shards
@@ -35,18 +35,18 @@ module _ {N : Type 0} where
   abbrev pub HaveGone : ℕ → List (ClaimedShard N) → Type 0
   HaveGone gone shards = All (λ (claimed : ClaimedShard N). claimed.shard.gone ≡ gone) shards
 
-  -- all process steps that the gradings of the faults of some claimed shards take
-  abbrev pub claimed_most : FlatDesign → TestPlan → List (ClaimedShard N) → ℕ
+  -- all own steps that the faults of some claimed shards take
+  abbrev pub claimed_most : {design : FlatDesign} {plan : TestPlan} → OwnStepsOf design plan → List (ClaimedShard N) → ℕ
   claimed_most tally shards = sum_by (λ (claimed : ClaimedShard N). sum_by (fault_steps_at tally) (places_of claimed.shard.faults)) shards
 
   -- Workers
 
-  -- the process steps that the gradings of the faults of their shards take
-  abbrev pub crew_steps : FlatDesign → TestPlan → List (Worker N) → ℕ
+  -- the own steps of the faults of their shards
+  abbrev pub crew_steps : {design : FlatDesign} {plan : TestPlan} → OwnStepsOf design plan → List (Worker N) → ℕ
   crew_steps tally workers = sum_by (worker_steps tally) workers
 
   -- those of a worker, if there is one
-  abbrev pub steps_in : FlatDesign → TestPlan → Option (Worker N) → ℕ
+  abbrev pub steps_in : {design : FlatDesign} {plan : TestPlan} → OwnStepsOf design plan → Option (Worker N) → ℕ
   steps_in tally None = 0
   steps_in tally (Some worker) = worker_steps tally worker
 

@@ -3,7 +3,7 @@
 ghost use Rattle.std.specs.Prelude.{◌≡◌, ◌++◌, ◌<◌, ◌≤◌, ◌^◌, length, sum_by, IfOk, OnOk};
 ghost use Rattle.std.specs.List.{All};
 ghost use Rattle.copy_laws.specs.Windows.{good_slots};
-ghost use Rattle.v_design.specs.WellFormed.{KeepsRules};
+ghost use Rattle.own_gradings.specs.Numbers.{OwnStepsOf};
 ghost use Rattle.shard_claims.specs.copy_shard.Shards.{fault_steps_at, findings_of, places_of, shard_steps};
 ghost use Rattle.fault_shards.specs.Found.{IsFinding, found_faults};
 ghost use Rattle.fault_shards.specs.Shards.{representatives_of};
@@ -28,7 +28,7 @@ fn push_found<N: World>(shard: &Shard<N>, found: &mut Vec<Finding>) -> Result<()
     ensures faults { OnOk result (found_faults found.new.items ≡ found_faults found.old.items ++ places_of shard.now.faults) }
     ensures graded { OnOk result (All (IsFinding N.design N.plan) found.old.items → All (IsFinding N.design N.plan) found.new.items) }
     ensures complete { OnOk result (found_faults (findings_of shard.now.faults) ≡ places_of shard.now.faults) }
-    ensures steps { OnOk result (KeepsRules N.design → shard_steps N.design N.plan shard.now ≤ sum_by (fault_steps_at N.design N.plan) (places_of shard.now.faults)) }
+    ensures steps { OnOk result ((tally : OwnStepsOf N.design N.plan) → shard_steps tally shard.now ≤ sum_by (fault_steps_at tally) (places_of shard.now.faults)) }
 {
     shard.stands();
     shard.push_findings(found)?;
@@ -44,7 +44,7 @@ fn findings_in<N: World>(
     ensures faults { IfOk result (λ found. found_faults found.items ≡ places_in shards.now) }
     ensures graded { IfOk result (λ found. All (IsFinding N.design N.plan) found.items) }
     ensures complete { IfOk result (λ _. All IsFoundShard shards.now) }
-    ensures steps { IfOk result (λ _. KeepsRules N.design → claimed_steps N.design N.plan shards.now ≤ claimed_most N.design N.plan shards.now) }
+    ensures steps { IfOk result (λ _. (tally : OwnStepsOf N.design N.plan) → claimed_steps tally shards.now ≤ claimed_most tally shards.now) }
 {
     let mut found = Vec::new(alloc);
     'shards: for claimed in shards {
@@ -62,7 +62,7 @@ fn finish_worker<N: World, G>(
     requires place { IsPlaceOf N.design N.plan place.now.shards.now place.now.board.now }
     requires at { IsWorkerAt (representatives_of place.now.shards.now) place.now.board.now (length (good_slots N.design N.plan)) worker }
     ensures gathered { IfOk result (HasGathered N.design N.plan (representatives_of place.now.shards.now) place.now.board.now lent_share) }
-    ensures steps { IfOk result (λ gathered. worker_steps N.design N.plan worker ≤ claimed_most N.design N.plan gathered.shards.items) }
+    ensures steps { IfOk result (λ gathered. (tally : OwnStepsOf N.design N.plan) → worker_steps tally worker ≤ claimed_most tally gathered.shards.items) }
 {
     fault_shards::shards_cover();
     beside_laws::good_run_goes_on();
@@ -94,7 +94,7 @@ pub fn finish<N: World, G>(
     requires rest { IsRest place.now.board.now count seat }
     requires at { AreWorkersAt (representatives_of place.now.shards.now) place.now.board.now (length (good_slots N.design N.plan)) count workers.items }
     ensures gathered { IfOk result (HasGathered N.design N.plan (representatives_of place.now.shards.now) place.now.board.now (2 ^ 62)) }
-    ensures steps { IfOk result (λ gathered. crew_steps N.design N.plan workers.items ≤ claimed_most N.design N.plan gathered.shards.items) }
+    ensures steps { IfOk result (λ gathered. (tally : OwnStepsOf N.design N.plan) → crew_steps tally workers.items ≤ claimed_most tally gathered.shards.items) }
 {
     let mut seat = seat;
     let mut workers = workers;

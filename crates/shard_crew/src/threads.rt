@@ -3,7 +3,7 @@
 ghost use Rattle.std.specs.Prelude.{◌≡◌, length, IfOk, OnOk, IsSomeAnd};
 ghost use Rattle.fault_shards.specs.Shards.{representatives_of};
 ghost use Rattle.shard_claims.specs.Workers.{IsPlaceOf, IsWorkerAt, worker_steps};
-ghost use Rattle.shard_crew.specs.Crews.{AreWorkersAt, RoseTwice, crew_steps, steps_in};
+ghost use Rattle.shard_crew.specs.Crews.{AreWorkersAt, RoseOwn, crew_steps, steps_in};
 ghost use Rattle.shard_crew.specs.Crossings.{MayCross};
 
 use shard_claims::{Round, Worker, work};

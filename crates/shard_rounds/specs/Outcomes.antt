@@ -1,17 +1,18 @@
 -- What the rounds come to (grades by the definition, over events by IEEE 1364-2001, clause 5).
-use Rattle.std.specs.Prelude.{ℕ, ◌+◌, ◌*◌, ◌≤◌, ◌^◌, List}
+use Rattle.std.specs.Prelude.{ℕ, ◌+◌, ◌≤◌, ◌^◌, List}
 use Rattle.v_design.specs.Designs.{FlatDesign, TestPlan}
 use Rattle.shard_crew.specs.fault_grade.Results.{LoopsAt}
 use Rattle.verdict_words.specs.declared.board.Board.{Board}
 use Rattle.shard_rounds.specs.declared.outcome.Outcome.{Outcome}
 use Rattle.shard_rounds.specs.declared.outcome.Outcome.TheVariants.{Graded, GoodLoop}
 use Rattle.v_design.specs.OwnSteps.{good_steps}
+use Rattle.own_gradings.specs.Numbers.{OwnStepsOf}
 use Rattle.shard_crew.specs.Crews.{HasGathered, claimed_most}
 
 module _ {N : Type 0} where
-  -- where all faults were graded, the counters rose by no more than the process steps of the good first run and twice those that the gradings of all faults of the shards take
+  -- where all faults were graded, the counters rose by no more than the process steps of the good first run and the own steps of all faults of the shards
   abbrev pub OutcomeTicks : FlatDesign → TestPlan → ℕ → ℕ → Outcome N → Type 0
-  OutcomeTicks design plan before after (Graded gathered) = after ≤ before + (good_steps design plan + 2 * claimed_most tally gathered.shards.items)
+  OutcomeTicks design plan before after (Graded gathered) = (tally : OwnStepsOf design plan) → after ≤ before + (good_steps design plan + claimed_most tally gathered.shards.items)
   OutcomeTicks design plan before after (GoodLoop time) = Unit {0}
 
   -- all faults were graded, by the seat that is left, and the good machine never loops before a race of its own; or it loops at a time

@@ -5,7 +5,8 @@ use Rattle.copy_laws.specs.Windows.{IsWindow, good_slots}
 use Rattle.shard_crew.specs.fault_grade.Results.{LoopsAt}
 use Rattle.good_trace.specs.Traces.{WindowKept}
 use Rattle.v_design.specs.OwnSteps.{good_steps}
-use Rattle.shard_crew.specs.graded_steps.Behind.{RisesWithin, RisesWithin}
+use Rattle.own_gradings.specs.Numbers.{RisesOwn}
+use Rattle.shard_crew.specs.graded_steps.Behind.{RisesWithin}
 use Rattle.good_windows.specs.Next.{RunKept, GivesNext, steps_of_slots}
 use Rattle.good_windows.specs.declared.next.NextWindow.{NextWindow}
 use Rattle.verdict_words.specs.declared.board.Board.{Board}
@@ -57,10 +58,10 @@ module _ {N : Type 0} where
   GoesOn design plan representatives board count through run (Done workers) = AreThrough design plan representatives board count workers.items
   GoesOn design plan representatives board count through run (Loops time) = LoopsAt design plan time
 
-  -- the counters of its workers rose by no more than twice the process steps that their gradings take in the round; where the good machine loops the workers are gone
+  -- the counters of its workers rose by no more than the own steps of their faults in the round; where the good machine loops the workers are gone
   abbrev pub RoundTicks : FlatDesign → TestPlan → List (Worker N) → ℕ → ℕ → Later N → Type 0
-  RoundTicks design plan workers before after (Round rounds) = RisesWithin (crew_steps tally workers) (crew_steps tally rounds.workers.items) before after
-  RoundTicks design plan workers before after (Done gone) = RisesWithin (crew_steps tally workers) (crew_steps tally gone.items) before after
+  RoundTicks design plan workers before after (Round rounds) = RisesOwn design plan (λ tally. crew_steps tally workers) (λ tally. crew_steps tally rounds.workers.items) before after
+  RoundTicks design plan workers before after (Done gone) = RisesOwn design plan (λ tally. crew_steps tally workers) (λ tally. crew_steps tally gone.items) before after
   RoundTicks design plan workers before after (Loops time) = Unit {0}
 
   -- the counter of the good machine rose by no more than its process steps in between
@@ -71,7 +72,7 @@ module _ {N : Type 0} where
 
   -- the same behind all rounds
   abbrev pub AllTicks : FlatDesign → TestPlan → List (Worker N) → ℕ → ℕ → Through N → Type 0
-  AllTicks design plan workers before after (ends.All gone) = RisesWithin (crew_steps tally workers) (crew_steps tally gone.items) before after
+  AllTicks design plan workers before after (ends.All gone) = RisesOwn design plan (λ tally. crew_steps tally workers) (λ tally. crew_steps tally gone.items) before after
   AllTicks design plan workers before after (ends.Loops time) = Unit {0}
 
   -- the first window, behind which so many slots were run

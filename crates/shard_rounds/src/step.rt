@@ -3,7 +3,7 @@
 ghost use Rattle.std.specs.Prelude.{◌≡◌, true, length, sum, IfOk, OnOk};
 ghost use Rattle.fault_shards.specs.Shards.{representatives_of};
 ghost use Rattle.shard_crew.specs.shard_claims.Workers.{IsPlaceOf};
-ghost use Rattle.shard_crew.specs.Crews.{AreWorkersAt, RoseTwice, crew_steps};
+ghost use Rattle.shard_crew.specs.Crews.{AreWorkersAt, RoseOwn, crew_steps};
 ghost use Rattle.good_windows.specs.Next.{steps_of_slots};
 ghost use Rattle.shard_rounds.specs.Rounds.{GoodTicks, IsBeforeRound, GoesOn, RoseWithin, RoundTicks, RunsOn};
 ghost use Rattle.shard_crew.specs.Crossings.{MayCross};

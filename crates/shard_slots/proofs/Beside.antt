@@ -38,7 +38,7 @@ module _ (design : FlatDesign) (plan : TestPlan) (number : ℕ) where
       left = λ left. refl;
     };
     through = λ goes slot stands. absurd (let no : beside.goes ≡ false = rests in cc);
-    most = λ goes may. absurd (let no : beside.goes ≡ false = rests in cc);
+    tried = λ goes may. absurd (let no : beside.goes ≡ false = rests in cc);
   }
 
   none-goes : (first rest : Bool) → (first || rest) ≡ false → (first ≡ false) × (rest ≡ false)
@@ -80,7 +80,7 @@ module _ (design : FlatDesign) (plan : TestPlan) (before through slot : ℕ) whe
     tried true goes =
         let gone = enters.goes goes in
         let may = (enters.begins goes).may in
-        inr (gone.slot_is, record { copy = old.one.own.copy; enters = gone.enters; may = may; in_slot = comes.most goes may })
+        inr (gone.slot_is, record { copy = old.one.own.copy; enters = gone.enters; may = may; in_slot = comes.tried goes may })
 
     went : WentThrough design plan before through slot own at new
     went = record {

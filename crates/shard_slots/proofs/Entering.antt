@@ -69,7 +69,7 @@ module _ (design : FlatDesign) (plan : TestPlan) (before through slot : ℕ) whe
     within = within;
     come = λ none. omega (arith, slot_is);
     listed = listed;
-    tried = ap (λ (one : FaultInSlot). one.tried.items) one_is ∙ enters.begins.tried;
+    tried = ap (λ (one : FaultInSlot). one.tried.items) one_is ∙ enters.begins.untried;
     goes = λ goes. record {
       slot_is = slot_is;
       more = (let early = enters.early in omega (arith, early, more));

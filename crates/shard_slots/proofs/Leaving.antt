@@ -11,7 +11,7 @@ use Rattle.own_gradings.specs.Laws.{OwnStepsRise}
 use Rattle.own_gradings.specs.Numbers.{OwnStepsOf}
 use Rattle.copy_lockstep.specs.graded_steps.Behind.{RisesWithin}
 use Rattle.copy_lockstep.specs.copy_window.ShardFaults.{SameFault, kept_by}
-use Rattle.copy_lockstep.specs.copy_window.Tried.{MayTry}
+use Rattle.window_beside.specs.Tried.{MayTry}
 use Rattle.copy_lockstep.specs.copy_window.declared.fault.ShardFault.{ShardFault}
 use Rattle.copy_lockstep.specs.phase_faults.declared.beside.FaultBeside.{FaultBeside}
 use Rattle.copy_lockstep.specs.Steps.{SlotsTakeOwn}

@@ -1,16 +1,18 @@
--- The process steps that the gradings of the faults of all shards take (nothing of the language).
+-- The own steps of the faults of all shards (nothing of the language).
 use Rattle.std.proofs.Common.{◌≡◌, ℕ, suc, ◌+◌, ◌*◌, ◌≤◌, List, [], ◌∷◌, length, take, drop, slice_get, Some, refl, sym, ap, ◌∙◌, arith}
-use Rattle.std.specs.Prelude.{sum_by}
+use Rattle.std.specs.Prelude.{false, sum, sum_by}
 use Rattle.std.proofs.lemmas.List.{drop-drop, drop_all}
 use Rattle.std.proofs.lemmas.List.Sums.{sum_by-cons, sum_by-take-drop}
 use Rattle.v_design.specs.Designs.{FlatDesign, TestPlan}
+use Rattle.v_design.specs.OwnSteps.{good_steps}
+use Rattle.own_gradings.specs.Laws.{OwnStepsRise}
+use Rattle.own_gradings.specs.Numbers.{OwnStepsOf}
 use Rattle.fault_shards.specs.Cuts.{shard, shard_count}
 use Rattle.shard_rounds.specs.copy_shard.Shards.{ShardKept, fault_steps_at, places_of}
 use Rattle.shard_workers.specs.Ordered.{work_steps}
-use Rattle.shard_workers.specs.Closings.{AreShardsDone, GradedTicks, IsAllGraded}
-use Rattle.shard_workers.specs.Results.{RoseByGradings}
+use Rattle.shard_workers.specs.Closings.{AreShardsDone, IsWork}
+use Rattle.shard_workers.specs.Results.{RoseByOwn}
 use Rattle.shard_workers.specs.declared.grade.Work.{Work}
-use Rattle.shard_workers.specs.declared.grade.Graded.TheVariants.{Findings}
 
 module _ (f : ℕ → ℕ) (representatives : List ℕ) where
   -- what the faults of a shard come to, and those from a shard on
@@ -57,13 +59,17 @@ module _ (f : ℕ → ℕ) (representatives : List ℕ) where
       omega (arith, all, none)
 
 -- what the counters rose by, said of the plan alone
-pub rose-graded : {N : Type 0} (design : FlatDesign) (plan : TestPlan) (before after : ℕ) (work : Work N) → IsAllGraded design plan (Findings work) →
-    GradedTicks design plan before after (Findings work) → RoseByGradings design plan before after
-rose-graded design plan before after work graded ticks = record {
+pub rose-own : {N : Type 0} → OwnStepsRise → (design : FlatDesign) (plan : TestPlan) (before after : ℕ) (work : Work N) → IsWork design plan work →
+    ((tally : OwnStepsOf design plan) → after ≤ before + (good_steps design plan + work_steps tally work.shards.items)) → RoseByOwn design plan before after
+rose-own law design plan before after work graded ticks = record {
   representatives = graded.closing.representatives;
   are_all = graded.closing.are_all;
-  within =
+  within = λ steps each. law.exist design plan after (before + (good_steps design plan + sum steps)) (λ tally.
       let same : work_steps tally work.shards.items ≡ sum_by (fault_steps_at tally) graded.closing.representatives =
       shards-sum (fault_steps_at tally) graded.closing.representatives work.shards.items graded.shards_are in
-      omega (arith, same, ticks);
+      let all : sum_by (fault_steps_at tally) graded.closing.representatives ≡ sum steps =
+      law.sums design plan tally false graded.closing.representatives steps
+      (λ number found. (let is = (graded.closing.are_all.each number).0 found in (is.fault, is.listed))) each in
+      let most = ticks tally in
+      omega (arith, same, all, most));
 }

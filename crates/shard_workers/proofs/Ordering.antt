@@ -17,6 +17,7 @@ use Rattle.shard_rounds.specs.copy_shard.declared.together.ClaimedShard.{Claimed
 use Rattle.shard_rounds.specs.shard_claims.Workers.{IsClaimed, KeepsShards}
 use Rattle.shard_rounds.specs.shard_crew.Crews.{IsFoundShard, claimed_most}
 use Rattle.v_design.specs.Designs.{FlatDesign, TestPlan}
+use Rattle.own_gradings.specs.Numbers.{OwnStepsOf}
 use Rattle.shard_workers.specs.Ordered.{claim_number, claimed_shard, work_steps, AreOrdered}
 use Rattle.shard_workers.specs.Closings.{IsEachOnce, IsShardDone, AreShardsDone}
 use Rattle.shard_workers.proofs.Closes.{times-in}
@@ -146,17 +147,17 @@ module _ {N : Type 0} (representatives : List ℕ) (gone count : ℕ) (v : View)
         (slice_get_cases o.sorted number).1;
   }
 
--- The process steps of the shards
+-- The own steps of the shards' faults
 
-steps-map : {N : Type 0} (design : FlatDesign) (plan : TestPlan) (claimed : List (ClaimedShard N)) → work_steps tally (map claimed_shard claimed) ≡ claimed_most tally claimed
-steps-map design plan [] = refl
-steps-map design plan (one ∷ claimed) =
+steps-map : {N : Type 0} (design : FlatDesign) (plan : TestPlan) (tally : OwnStepsOf design plan) (claimed : List (ClaimedShard N)) → work_steps tally (map claimed_shard claimed) ≡ claimed_most tally claimed
+steps-map design plan tally [] = refl
+steps-map design plan tally (one ∷ claimed) =
     sum_by-cons (λ (own : ShardKept). sum_by (fault_steps_at tally) (places_of own.faults)) one.shard (map claimed_shard claimed)
-    ∙ (ap (λ n. sum_by (fault_steps_at tally) (places_of one.shard.faults) + n) (steps-map design plan claimed)
+    ∙ (ap (λ n. sum_by (fault_steps_at tally) (places_of one.shard.faults) + n) (steps-map design plan tally claimed)
     ∙ sym (sum_by-cons (λ (c : ClaimedShard _). sum_by (fault_steps_at tally) (places_of c.shard.faults)) one claimed))
 
-pub steps-ordered : {N : Type 0} (design : FlatDesign) (plan : TestPlan) (claimed : List (ClaimedShard N)) (shards : List ShardKept) → AreOrdered claimed shards →
+pub steps-ordered : {N : Type 0} (design : FlatDesign) (plan : TestPlan) (tally : OwnStepsOf design plan) (claimed : List (ClaimedShard N)) (shards : List ShardKept) → AreOrdered claimed shards →
     claimed_most tally claimed ≡ work_steps tally shards
-steps-ordered design plan claimed shards ordered =
+steps-ordered design plan tally claimed shards ordered =
     sym (sum_by-IsPermutation (λ (c : ClaimedShard _). sum_by (fault_steps_at tally) (places_of c.shard.faults)) claimed ordered.sorted ordered.permuted)
-    ∙ (sym (steps-map design plan ordered.sorted) ∙ sym (ap (work_steps tally) ordered.shards_are))
+    ∙ (sym (steps-map design plan tally ordered.sorted) ∙ sym (ap (work_steps tally) ordered.shards_are))

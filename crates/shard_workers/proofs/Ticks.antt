@@ -12,9 +12,14 @@ module _ {N : Type 0} (design : FlatDesign) (plan : TestPlan) where
   pub ticks-over : (first counters rest own new : List ℕ) (graded : Graded N) → GradedTicks design plan (sum first + sum counters) (sum own + sum new) graded →
       GradedTicks design plan (sum (first ++ (counters ++ rest))) (sum (own ++ (new ++ rest))) graded
   ticks-over first counters rest own new (GoodLoop time) within = tt
-  ticks-over first counters rest own new (Findings work) within =
-      let before : sum (counters ++ rest) ≡ sum counters + sum rest = sum_by-append (λ n. n) counters rest in
-      let after : sum (new ++ rest) ≡ sum new + sum rest = sum_by-append (λ n. n) new rest in
-      let was : sum (first ++ (counters ++ rest)) ≡ sum first + sum (counters ++ rest) = sum_by-append (λ n. n) first (counters ++ rest) in
-      let now : sum (own ++ (new ++ rest)) ≡ sum own + sum (new ++ rest) = sum_by-append (λ n. n) own (new ++ rest) in
-      omega (arith, before, after, was, now, within)
+  ticks-over first counters rest own new (Findings work) within = record {
+    representatives = within.representatives;
+    are_all = within.are_all;
+    within = λ steps each.
+        (let before : sum (counters ++ rest) ≡ sum counters + sum rest = sum_by-append (λ n. n) counters rest in
+        let after : sum (new ++ rest) ≡ sum new + sum rest = sum_by-append (λ n. n) new rest in
+        let was : sum (first ++ (counters ++ rest)) ≡ sum first + sum (counters ++ rest) = sum_by-append (λ n. n) first (counters ++ rest) in
+        let now : sum (own ++ (new ++ rest)) ≡ sum own + sum (new ++ rest) = sum_by-append (λ n. n) own (new ++ rest) in
+        let most = within.within steps each in
+        omega (arith, before, after, was, now, most));
+  }

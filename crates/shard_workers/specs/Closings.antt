@@ -1,5 +1,5 @@
 -- What the closed board of a graded plan shows (classes of faults: gates by IEEE 1364-2001, clause 7).
-use Rattle.std.specs.Prelude.{◌≡◌, ℕ, ◌+◌, ◌*◌, ◌≤◌, List, Some, length, slice_get, slice_index}
+use Rattle.std.specs.Prelude.{◌≡◌, ℕ, List, Some, length, slice_get, slice_index}
 use Rattle.v_design.specs.Designs.{FlatDesign, TestPlan}
 use Rattle.order_laws.specs.Reports.{AreGrades}
 use Rattle.v_design.specs.Findings.{grades_of, AreInOrder}
@@ -11,9 +11,8 @@ use Rattle.shard_rounds.specs.copy_shard.Shards.{ShardKept, places_of, findings_
 use Rattle.fault_shards.specs.Cuts.{shard, shard_count}
 use Rattle.fault_shards.specs.Found.{found_faults}
 use Rattle.fault_shards.specs.Representatives.{IsRepresentative, AreRepresentatives}
-use Rattle.v_design.specs.OwnSteps.{good_steps}
 use Rattle.shard_rounds.specs.fault_grade.Results.{LoopsAt}
-use Rattle.shard_workers.specs.Ordered.{work_steps}
+use Rattle.shard_workers.specs.Results.{RoseByOwn}
 use Rattle.shard_workers.specs.declared.grade.Work.{Work}
 use Rattle.shard_workers.specs.declared.grade.Graded.{Graded}
 use Rattle.shard_workers.specs.declared.grade.Graded.TheVariants.{Findings, GoodLoop}
@@ -56,9 +55,9 @@ module _ {N : Type 0} where
     pub closing : IsClosing design plan work.closed
     pub shards_are : AreShardsDone closing.representatives work.shards.items
 
-  -- where all faults were graded, counters rose by no more than the process steps of the good first run, and twice those that the gradings of the faults of all shards take
+  -- where all faults were graded, counters rose by no more than the process steps of the good first run, and all own steps of each fault that stands for its class
   abbrev pub GradedTicks : FlatDesign → TestPlan → ℕ → ℕ → Graded N → Type 0
-  GradedTicks design plan before after (Findings work) = after ≤ before + (good_steps design plan + 2 * work_steps tally work.shards.items)
+  GradedTicks design plan before after (Findings work) = RoseByOwn design plan before after
   GradedTicks design plan before after (GoodLoop time) = Unit {0}
 
   -- so all faults were graded; or the good machine loops at a time, before a race of its own

@@ -2,11 +2,12 @@
 use Rattle.std.specs.Prelude.{◌≡◌, ℕ, List, map, sum_by}
 use Rattle.std.specs.List.Sorted.{IsPermutation, IsNonDecreasingBy}
 use Rattle.v_design.specs.Designs.{FlatDesign, TestPlan}
+use Rattle.own_gradings.specs.Numbers.{OwnStepsOf}
 use Rattle.shard_rounds.specs.copy_shard.Shards.{ShardKept, fault_steps_at, places_of}
 use Rattle.shard_rounds.specs.copy_shard.declared.together.ClaimedShard.{ClaimedShard}
 
--- all process steps that the gradings of the faults of some shards take
-abbrev pub work_steps : FlatDesign → TestPlan → List ShardKept → ℕ
+-- all own steps that the faults of some shards take
+abbrev pub work_steps : {design : FlatDesign} {plan : TestPlan} → OwnStepsOf design plan → List ShardKept → ℕ
 work_steps tally shards = sum_by (λ (own : ShardKept). sum_by (fault_steps_at tally) (places_of own.faults)) shards
 
 module _ {N : Type 0} where

@@ -1,5 +1,5 @@
 -- What grading a plan answers (grades over first runs, and over all legal orders, by IEEE 1364-2001, clause 5).
-use Rattle.std.specs.Prelude.{ℕ, ◌+◌, ◌*◌, ◌≤◌, List, length, sum_by}
+use Rattle.std.specs.Prelude.{ℕ, ◌+◌, ◌≤◌, false, List, length, sum}
 use Rattle.std.specs.List.{AllZip}
 use Rattle.v_design.specs.Designs.{FlatDesign, TestPlan}
 use Rattle.v_design.specs.Laws.{ReportHolds}
@@ -7,7 +7,7 @@ use Rattle.order_laws.specs.Reports.{AreGrades}
 use Rattle.v_design.specs.Findings.{grades_of, AreInOrder}
 use Rattle.v_design.specs.OwnSteps.{good_steps}
 use Rattle.fault_shards.specs.Representatives.{AreRepresentatives}
-use Rattle.shard_rounds.specs.copy_shard.Shards.{fault_steps_at}
+use Rattle.own_gradings.specs.Numbers.{TakesOwn}
 use Rattle.shard_rounds.specs.fault_grade.Results.{LoopsAt, SpeaksOfOrders}
 use Rattle.shard_workers.specs.declared.plan.PlanGrades.{PlanGrades}
 use Rattle.shard_workers.specs.declared.plan.PlanGrades.TheVariants.{Findings, GoodLoop}
@@ -23,13 +23,13 @@ abbrev pub StandsInEveryOrder : FlatDesign → TestPlan → PlanGrades → Type 
 StandsInEveryOrder design plan (Findings findings) = ReportHolds design plan (grades_of findings.items) × AllZip (SpeaksOfOrders design plan) plan.faults (grades_of findings.items)
 StandsInEveryOrder design plan (GoodLoop time) = Unit {0}
 
--- counters rose by no more than the process steps of the good first run, and twice those that the grading of each fault that stands for its class takes
-pub record RoseByGradings (design : FlatDesign) (plan : TestPlan) (before after : ℕ) : Type 0 where
+-- counters rose by no more than the process steps of the good first run, and all own steps of each fault that stands for its class
+pub record RoseByOwn (design : FlatDesign) (plan : TestPlan) (before after : ℕ) : Type 0 where
   pub representatives : List ℕ
   pub are_all : AreRepresentatives design plan.faults representatives
-  pub within : after ≤ before + (good_steps design plan + 2 * sum_by (fault_steps_at tally) representatives)
+  pub within : (steps : List ℕ) → AllZip (TakesOwn design plan false) representatives steps → after ≤ before + (good_steps design plan + sum steps)
 
 -- so they rose where all faults were graded
 abbrev pub PlanTicks : FlatDesign → TestPlan → ℕ → ℕ → PlanGrades → Type 0
-PlanTicks design plan before after (Findings findings) = RoseByGradings design plan before after
+PlanTicks design plan before after (Findings findings) = RoseByOwn design plan before after
 PlanTicks design plan before after (GoodLoop time) = Unit {0}

@@ -8,6 +8,7 @@ ghost use Rattle.fault_shards.specs.Shards.{representatives_of};
 ghost use Rattle.shard_rounds.specs.shard_claims.Workers.{IsPlaceOf};
 ghost use Rattle.shard_rounds.specs.shard_crew.Crews.{claimed_most, HasGathered};
 ghost use Rattle.shard_workers.specs.Closings.{IsWork, IsAllGraded, GradedTicks};
+ghost use Rattle.own_gradings.specs.Numbers.{OwnStepsOf};
 ghost use Rattle.shard_workers.specs.Ordered.{work_steps};
 
 use crate::order::in_claim_order;
@@ -50,7 +51,7 @@ fn close_work<N: World>(
     requires gathered { HasGathered N.design N.plan (representatives_of shards.now) board (2 ^ 62) gathered }
     requires goes_on { (time : ℕ) → LoopsAt N.design N.plan time → ⊥ }
     ensures work { IfOk result (IsWork N.design N.plan) }
-    ensures steps { IfOk result (λ work. claimed_most N.design N.plan gathered.shards.items ≡ work_steps N.design N.plan work.shards.items) }
+    ensures steps { IfOk result (λ work. (tally : OwnStepsOf N.design N.plan) → claimed_most tally gathered.shards.items ≡ work_steps tally work.shards.items) }
 {
     fault_shards::shards_cover();
     let Gathered {
@@ -82,6 +83,7 @@ fn work_all<N: World, R: Threads + Sync, G: Gate + Sync, L: Ledger + Send + Sync
     ensures graded { IfOk result (IsAllGraded N.design N.plan) }
     ensures ticks { IfOk result (GradedTicks N.design N.plan (sum own.old + sum steps.old) (sum own.new + sum steps.new)) }
 {
+    own_gradings::own_steps_rise();
     let design = setup.design();
     let plan = setup.plan();
     let faults = plan.faults.as_slice();
@@ -106,8 +108,8 @@ fn work_all<N: World, R: Threads + Sync, G: Gate + Sync, L: Ledger + Send + Sync
 /// Grades all listed faults of the world's plan by so many workers, each a thread with a counter of its own; the first counter is the calling thread's.
 ///
 /// Which worker grades which fault, and in what order, depends on the schedule; what is answered doesn't. Where no thread can be started the calling
-/// thread does the work. Where all faults are graded, all counters together rise by no more than the process steps of the good first run and twice those that the grading of
-/// each fault that stands for its class takes; where the good machine loops, or memory is wanting, nothing is said of them.
+/// thread does the work. Where all faults are graded, all counters together rise by no more than the process steps of the good first run and the own steps of each fault
+/// that stands for its class; where the good machine loops, or memory is wanting, nothing is said of them.
 ///
 /// # Errors
 ///

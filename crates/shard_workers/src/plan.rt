@@ -26,8 +26,7 @@ pub enum PlanGrades {
 /// What was answered, without the board.
 fn without_board<N: World>(graded: Graded<N>) -> PlanGrades
     ensures grades { (design : FlatDesign) (plan : TestPlan) → IsAllGraded design plan graded → IsGraded design plan result }
-    ensures ticks { (design : FlatDesign) (plan : TestPlan) (before after : ℕ) → IsAllGraded design plan graded → GradedTicks design plan before after graded →
-        PlanTicks design plan before after result }
+    ensures ticks { (design : FlatDesign) (plan : TestPlan) (before after : ℕ) → GradedTicks design plan before after graded → PlanTicks design plan before after result }
 {
     match graded {
         Graded::GoodLoop(time) => PlanGrades::GoodLoop(time),
@@ -60,7 +59,7 @@ fn grade_world<N: World, R: Threads + Sync, G: Gate + Sync, L: Ledger + Send + S
 /// The findings on all listed faults of a plan, or the time at which the good machine loops, by so many workers.
 ///
 /// The first counter is the calling thread's, and each worker has one of those behind it. Where all faults are graded, all counters together rise by no more than the
-/// process steps of the good first run and twice those that the grading of each fault that stands for its class takes.
+/// process steps of the good first run and the own steps of each fault that stands for its class.
 ///
 /// # Errors
 ///

@@ -111,7 +111,8 @@ slot-early moments design plan number slot end here =
 
 -- The beginning
 
-module _ (steps : StepsGoOn) (owns : OwnStepsGoOn) (design : FlatDesign) (plan : TestPlan) (fault : StuckAt) (from until number : ℕ) (copy : CopyKept) (phase : Phase) (later : List Phase) (notes : NotesKept)
+module _ (steps : StepsGoOn) (owns : OwnStepsGoOn) (design : FlatDesign) (plan : TestPlan) (fault : StuckAt) (from until number : ℕ) (copy : CopyKept) (phase : Phase) (later : List Phase)
+    (notes : NotesKept)
     (own : LockstepCopy) (spare : ℕ) (tried : List TriedStep) (apart : List RunApart) (of : MayBeginSlot design plan fault (from + number) copy) where
   pub slot-begins : phases (good_machine design) of.slot ≡ phase ∷ later → from + number < until → of.slot.begins.time ≤ 2 ^ 63 → own.copy.values ≡ copy.values → own.copy.updates ≡ copy.updates → own.lanes ≡ [] → (runner : Runner) (before behind : MomentKept) →
       IsRoomIn design plan from until number (first_place phase later) runner before behind → before.moment ≡ length (window_events design plan from (from + number)) →
@@ -157,7 +158,8 @@ module _ (steps : StepsGoOn) (owns : OwnStepsGoOn) (design : FlatDesign) (plan :
   -- The end
 
   pub slot-ends : KeptEnds → (place : Place) (runner : Runner) (before behind : MomentKept)
-      (on : SlotGoesOn design plan fault of.slot (own_begins design plan fault of.time of.slot) from until number place runner before behind notes own spare tried apart) → place.left ≡ [] → place.later ≡ [] →
+      (on : SlotGoesOn design plan fault of.slot (own_begins design plan fault of.time of.slot) from until number place runner before behind notes own spare tried apart) → place.left ≡ [] →
+      place.later ≡ [] →
       phase_race (faulty_machine design fault) on.goes.at.phase_begins on.goes.at.events ≡ None → Ascend own.copy.values → Ascend own.copy.updates →
       IsCopyInLockstep design plan fault (from + number) of.slot.begins.time (lockstep_differences own.copy)
   slot-ends ends place runner before behind on through last clean values updates =

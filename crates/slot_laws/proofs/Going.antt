@@ -1,5 +1,5 @@
 -- Both machines go over a stretch that leaves alone what is kept, through the end of a phase, and over a turn.
-use Rattle.std.proofs.Common.{◌≡◌, ℕ, ◌+◌, ◌<◌, ◌++◌, [], ◌∷◌, length, take, drop, true, refl, sym, ap, subst, ◌∙◌, arith}
+use Rattle.std.proofs.Common.{◌≡◌, ℕ, ◌+◌, ◌++◌, List, [], ◌∷◌, length, take, drop, true, refl, sym, ap, subst, ◌∙◌, arith}
 use Rattle.std.specs.Prelude.{Option, Some, None, is_some}
 use Rattle.std.specs.Option.{option_map}
 use Rattle.std.proofs.lemmas.List.{length-take-le, take-append-drop}
@@ -46,7 +46,8 @@ mapped-some f (Some x) = refl
 -- what is kept of a fault in lockstep is of objects and processes that are there
 
 module _ (design : FlatDesign) (plan : TestPlan) (fault : StuckAt) (slot : FirstSlot) (begins : State) (from until moment : ℕ) (place : Place) (kept : MomentKept) (notes : NotesKept)
-    (own : LockstepCopy) (spare : ℕ) (tried : List TriedStep) (apart : List RunApart) (shown : IsShownAt design plan place kept) (goes : FaultGoes design plan fault slot begins from until moment place notes own spare tried apart) where
+    (own : LockstepCopy) (spare : ℕ) (tried : List TriedStep) (apart : List RunApart) (shown : IsShownAt design plan place kept) (goes : FaultGoes design plan fault slot begins from until
+    moment place notes own spare tried apart) where
   makes : MakesLockstep own (state_there (good_machine design) place) goes.at.state
   makes = record { lockstep = goes.going.stands.lockstep.lockstep; nothing_same = goes.going.stands.nothing_same }
 
@@ -65,9 +66,11 @@ module _ (design : FlatDesign) (plan : TestPlan) (fault : StuckAt) (slot : First
       omega (arith, low, count)
 
 module _ (design : FlatDesign) (plan : TestPlan) (fault : StuckAt) (slot : FirstSlot) (begins : State) (from until number : ℕ) (place : Place) (runner : Runner) (before behind : MomentKept)
-    (notes : NotesKept) (own : LockstepCopy) (spare : ℕ) (tried : List TriedStep) (apart : List RunApart) (on : SlotGoesOn design plan fault slot begins from until number place runner before behind notes own spare tried apart) where
+    (notes : NotesKept) (own : LockstepCopy) (spare : ℕ) (tried : List TriedStep) (apart : List RunApart) (on : SlotGoesOn design plan fault slot begins from until number place runner
+    before behind notes own spare tried apart) where
   -- a stretch is passed over
-  pub passes-on : StepsGoOn → OwnStepsGoOn → LimitsTell → (count : ℕ) (new_runner : Runner) (next later : MomentKept) → IsRoomIn design plan from until number (further count place) new_runner next later →
+  pub passes-on : StepsGoOn → OwnStepsGoOn → LimitsTell → (count : ℕ) (new_runner : Runner) (next later : MomentKept) → IsRoomIn design plan from until number (further count place)
+      new_runner next later →
       next.moment ≡ before.moment + count → StopsAt design place before.moment next.moment count →
       LeftAlone design fault.site own.copy (window_events design plan from until) before.moment next.moment →
       SlotGoesOn design plan fault slot begins from until number (further count place) new_runner next later notes own spare tried apart

@@ -1,7 +1,7 @@
 -- A fault takes a block of its own, and the room goes over the good machine's.
-use Rattle.std.proofs.Common.{◌≡◌, ℕ, ◌+◌, ◌-◌, ◌++◌, List, length, refl, sym, ap, subst, ◌∙◌, arith}
+use Rattle.std.proofs.Common.{◌≡◌, ℕ, ◌+◌, ◌-◌, ◌++◌, List, length, sym, ap, subst, ◌∙◌, arith}
 use Rattle.std.proofs.lemmas.List.{length-append}
-use Rattle.v_design.specs.Designs.{FlatDesign, StuckAt, TestPlan, good_machine}
+use Rattle.v_design.specs.Designs.{FlatDesign, StuckAt, TestPlan}
 use Rattle.v_design.specs.Runs.{FirstSlot}
 use Rattle.v_design.specs.States.{State, Event}
 use Rattle.lockstep_block.specs.block_events.declared.runner.Runner.{Runner}
@@ -11,18 +11,18 @@ use Rattle.lockstep_block.specs.moment_laws.Places.{IsShownAt}
 use Rattle.lockstep_block.specs.moment_laws.Shown.{MomentKept}
 use Rattle.lockstep_block.specs.moment_laws.Shown as moments
 use Rattle.lockstep_block.specs.Blocks.{FaultGoes}
-use Rattle.lockstep_block.specs.Own.{MayRunOwn, RoomStays}
-use Rattle.lockstep_block.specs.Rooms.{CanFollow, IsLockstepRoom, IsRunnerAt}
+use Rattle.lockstep_block.specs.Own.{MayRunOwn}
+use Rattle.lockstep_block.specs.Rooms.{IsRunnerAt}
 use Rattle.lockstep_block.specs.lockstep_copy.declared.own.LockstepCopy.{LockstepCopy}
 use Rattle.lockstep_block.specs.lockstep_room.declared.counts.Counts.{Counts}
 use Rattle.lockstep_block.specs.lockstep_room.Rooms.{AreCounts}
-use Rattle.lockstep_block.specs.lockstep_slots.Places.{Place, behind_events, state_there}
+use Rattle.lockstep_block.specs.lockstep_slots.Places.{Place, behind_events}
 use Rattle.race_notes.specs.Notes.{NotesKept}
 use Rattle.trace_window.specs.Moments.{window_events}
 use Rattle.lockstep_block.specs.window_places.Passing.{events_before}
 use Rattle.slot_laws.specs.Slots.{GoesFurther, GoesOverBlock, SlotGoesOn, further}
 use Rattle.slot_laws.proofs.Further.{further-behind, further-none}
-use Rattle.slot_laws.proofs.Rooms.{beside, goes-over, shows-whole}
+use Rattle.slot_laws.proofs.Rooms.{beside}
 use Rattle.good_runs.specs.declared.tried.TriedStep.{TriedStep}
 use Rattle.run_numbers.specs.declared.numbers.RunApart.{RunApart}
 
@@ -50,7 +50,8 @@ moments-same design plan place one other first second from slot =
     second.moment_is ∙ (λ i. length (window_events design plan (from i) (from i + slot i)) + events_before place) ∙ sym first.moment_is
 
 module _ (design : FlatDesign) (plan : TestPlan) (fault : StuckAt) (slot : FirstSlot) (begins : State) (from until number : ℕ) (place : Place) (runner : Runner) (before behind later : MomentKept)
-    (notes : NotesKept) (own : LockstepCopy) (spare : ℕ) (tried : List TriedStep) (apart : List RunApart) (on : SlotGoesOn design plan fault slot begins from until number place runner before behind notes own spare tried apart)
+    (notes : NotesKept) (own : LockstepCopy) (spare : ℕ) (tried : List TriedStep) (apart : List RunApart) (on : SlotGoesOn design plan fault slot begins from until number place runner
+    before behind notes own spare tried apart)
     (ahead : PassesBlock design plan place behind later) where
   unfoldable pub may-run-own : (counts : Counts) → AreCounts design counts → MayRunOwn design plan fault from until runner before later counts notes own spare tried apart
   may-run-own counts counted = record {

@@ -1,5 +1,5 @@
 -- A fault through a phase, stretch by stretch and block by block.
-use Rattle.std.proofs.Common.{◌≡◌, ℕ, ◌+◌, ◌-◌, ◌≤◌, length, drop, sym, subst, arith}
+use Rattle.std.proofs.Common.{◌≡◌, ℕ, ◌+◌, ◌-◌, ◌≤◌, List, length, drop, sym, subst, arith}
 use Rattle.std.proofs.lemmas.List.{length-drop}
 use Rattle.v_design.specs.Designs.{FlatDesign, StuckAt, TestPlan}
 use Rattle.v_design.specs.Runs.{FirstSlot}
@@ -27,8 +27,10 @@ module _ (design : FlatDesign) (plan : TestPlan) (fault : StuckAt) (slot : First
   }
 
   -- and further on
-  pub come-more : (moment : ℕ) (runner : Runner) (before behind : MomentKept) (notes : NotesKept) (own : LockstepCopy) (spare : ℕ) (tried : List TriedStep) (apart : List RunApart) (next_runner : Runner) (next later : MomentKept)
-      (next_notes : NotesKept) (next_own : LockstepCopy) (less : ℕ) (next_tried : List TriedStep) (next_apart : List RunApart) (come : HasComeOn design plan fault slot begins from until number place moment runner before behind notes own spare tried apart) →
+  pub come-more : (moment : ℕ) (runner : Runner) (before behind : MomentKept) (notes : NotesKept) (own : LockstepCopy) (spare : ℕ) (tried : List TriedStep) (apart : List RunApart)
+      (next_runner : Runner) (next later : MomentKept)
+      (next_notes : NotesKept) (next_own : LockstepCopy) (less : ℕ) (next_tried : List TriedStep) (next_apart : List RunApart) (come : HasComeOn design plan fault slot begins from until
+      number place moment runner before behind notes own spare tried apart) →
       HasComeOn design plan fault slot begins from until number (further come.count place) before.moment next_runner next later next_notes next_own less next_tried next_apart →
       HasComeOn design plan fault slot begins from until number place moment next_runner next later next_notes next_own less next_tried next_apart
   come-more moment runner before behind notes own spare tried apart next_runner next later next_notes next_own less next_tried next_apart come goes =
@@ -42,7 +44,8 @@ module _ (design : FlatDesign) (plan : TestPlan) (fault : StuckAt) (slot : First
         within = omega (arith, within, long, low);
         moment_is = omega (arith, at, moved);
         on =
-            subst (λ (p : Place). SlotGoesOn design plan fault slot begins from until number p next_runner next later next_notes next_own less next_tried next_apart) (further-more come.count goes.count place low)
+            subst (λ (p : Place). SlotGoesOn design plan fault slot begins from until number p next_runner next later next_notes next_own less next_tried next_apart) (further-more
+            come.count goes.count place low)
             goes.on;
       }
 

@@ -160,8 +160,10 @@ module _ (follow : PhasesFollow) (design : FlatDesign) (plan : TestPlan) (from u
 
 -- Both machines
 
-module _ (steps : StepsGoOn) (owns : OwnStepsGoOn) (follow : PhasesFollow) (lanes : LanesTellTurns) (design : FlatDesign) (plan : TestPlan) (fault : StuckAt) (slot : FirstSlot) (begins : State) (from until number : ℕ)
-    (place : Place) (runner : Runner) (before behind : MomentKept) (notes cleared : NotesKept) (own new : LockstepCopy) (spare : ℕ) (tried : List TriedStep) (apart : List RunApart) (next : Phase) (later : List Phase)
+module _ (steps : StepsGoOn) (owns : OwnStepsGoOn) (follow : PhasesFollow) (lanes : LanesTellTurns) (design : FlatDesign) (plan : TestPlan) (fault : StuckAt) (slot : FirstSlot) (begins :
+    State) (from until number : ℕ)
+    (place : Place) (runner : Runner) (before behind : MomentKept) (notes cleared : NotesKept) (own new : LockstepCopy) (spare : ℕ) (tried : List TriedStep) (apart : List RunApart) (next :
+    Phase) (later : List Phase)
     (on : SlotGoesOn design plan fault slot begins from until number place runner before behind notes own spare tried apart) (through : place.left ≡ []) (follows : place.later ≡ next ∷ later)
     (clean : phase_race (faulty_machine design fault) on.goes.at.phase_begins on.goes.at.events ≡ None) (none : HasNoNotes before.moment cleared) where
   over : GoesOverTurn design plan fault slot begins from until before.moment place on.goes.at cleared (kept_by own) spare next later

@@ -85,7 +85,7 @@ pub fn make_dictionary<L: Ledger>(
     ensures dict { IfOk result (IsDict (design_of design.now) (plan_of plan.now)) }
     // There is a dictionary only where the good machine doesn't loop.
     ensures no_loop { IfOk result (NoLoop (design_of design.now) (plan_of plan.now)) }
-    // Where one is made, the process steps are those of the good machine and at most twice those of the faults that stand for their classes.
+    // Where one is made, the process steps are those of the good machine and at most the own steps of the faults that stand for their classes.
     ensures ticks { IfOk result (DictTicks (design_of design.now) (plan_of plan.now) steps.old steps.new) }
 {
     let made = dictionary_of::<Brand, L>(alloc, design, plan, steps)?;

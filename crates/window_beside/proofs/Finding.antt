@@ -42,12 +42,13 @@ rest_by machine slots outcome = elim outcome [ Fine ↦ slots_through_stop machi
 pub through-get : (machine : Machine) (slots : List FirstSlot) (k : ℕ) (slot : FirstSlot) → slice_get (slots_through_stop machine slots) k ≡ Some slot → slice_get slots k ≡ Some slot
 through-get machine [] k slot here = cc
 through-get machine (x ∷ slots) zero slot here = here
-through-get machine (x ∷ slots) (suc k) slot here = go (slot_outcome machine x) here
+through-get machine (x ∷ slots) (suc k) slot here = go (slot_outcome machine x) here (through-get machine slots k slot)
   where
-    go : (outcome : SlotOutcome) → slice_get (rest_by machine slots outcome) k ≡ Some slot → slice_get slots k ≡ Some slot
-    go Fine e = through-get machine slots k slot e
-    go (Race pair) e = cc
-    go Hyper e = cc
+    go : (outcome : SlotOutcome) → slice_get (rest_by machine slots outcome) k ≡ Some slot → (slice_get (slots_through_stop machine slots) k ≡ Some slot → slice_get slots k ≡ Some slot) →
+        slice_get slots k ≡ Some slot
+    go Fine e rest = rest e
+    go (Race pair) e rest = cc
+    go Hyper e rest = cc
 
 -- behind them come the others, all after a time after which the first stop comes
 record Rest (machine : Machine) (time : ℕ) (slots : List FirstSlot) : Type 0 where
@@ -69,19 +70,20 @@ stop_by machine slot slots outcome = elim outcome [
 
 rest-of : (machine : Machine) (time : ℕ) (slots : List FirstSlot) → Rise slots → StopsAfter time (first_stop machine slots) → Rest machine time slots
 rest-of machine time [] rise stop = record { rest = []; parts = refl; later = tt }
-rest-of machine time (x ∷ slots) rise stop = go (slot_outcome machine x) refl stop
+rest-of machine time (x ∷ slots) rise stop = go (slot_outcome machine x) refl stop (rest-of machine time slots rise.1)
   where
-    go : (outcome : SlotOutcome) → slot_outcome machine x ≡ outcome → StopsAfter time (stop_by machine x slots outcome) → Rest machine time (x ∷ slots)
-    go Fine e s =
-        let more = rest-of machine time slots rise.1 s in
+    go : (outcome : SlotOutcome) → slot_outcome machine x ≡ outcome → StopsAfter time (stop_by machine x slots outcome) →
+        (StopsAfter time (first_stop machine slots) → Rest machine time slots) → Rest machine time (x ∷ slots)
+    go Fine e s others =
+        let more = others s in
         record {
           rest = more.rest;
           parts = ap (λ (l : List FirstSlot). x ∷ l) more.parts ∙ sym (ap (λ o. (x ∷ rest_by machine slots o) ++ more.rest) e);
           later = more.later;
         }
-    go (Race pair) e s =
+    go (Race pair) e s others =
         record { rest = slots; parts = sym (ap (λ o. (x ∷ rest_by machine slots o) ++ slots) e); later = all-later time x.begins.time slots s rise.0 }
-    go Hyper e s = record { rest = slots; parts = sym (ap (λ o. (x ∷ rest_by machine slots o) ++ slots) e); later = all-later time x.begins.time slots s rise.0 }
+    go Hyper e s others = record { rest = slots; parts = sym (ap (λ o. (x ∷ rest_by machine slots o) ++ slots) e); later = all-later time x.begins.time slots s rise.0 }
 
 -- Finding
 
@@ -89,7 +91,7 @@ abbrev IsAt : ℕ → FirstSlot → Type 0
 IsAt time slot = slot.begins.time ≡ time
 
 one-not : (time : ℕ) (x : FirstSlot) (slots : List FirstSlot) → (IsAt time x → ⊥) → slot_at (x ∷ slots) time ≡ slot_at slots time
-one-not time x slots no = ap (λ b. cond b (Some x) (slot_at slots time)) (ne_eqb x.begins.time time no)
+one-not time x slots differ = ap (λ b. cond b (Some x) (slot_at slots time)) (ne_eqb x.begins.time time differ)
 
 none-at : (time : ℕ) (slots : List FirstSlot) → ((k : ℕ) (slot : FirstSlot) → slice_get slots k ≡ Some slot → IsAt time slot → ⊥) → slot_at slots time ≡ None
 none-at time [] none = refl

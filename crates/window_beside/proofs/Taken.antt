@@ -44,16 +44,13 @@ module _ (count : OwnStepsCount) (f : FirstSlot → List (Option ProcessRun × P
       let same : x ≡ slot = same-slot x slot here in
       subst (λ b. AtMostOwn (joined (map f (cond b (x ∷ filter test slots) (filter test slots)))) n) (sym (ap test same ∙ passes))
       (wider [] (f x) (joined (map f (filter test slots))) n (subst (λ (s : FirstSlot). AtMostOwn (f s) n) (sym same) bound))
-  of-one (x ∷ slots) (suc k) slot n here passes bound = go (test x)
+  of-one (x ∷ slots) (suc k) slot n here passes bound = go (test x) (of-one slots k slot n here passes bound)
     where
-      more : AtMostOwn (joined (map f (filter test slots))) n
-      more = of-one slots k slot n here passes bound
-
-      go : (b : Bool) → AtMostOwn (joined (map f (cond b (x ∷ filter test slots) (filter test slots)))) n
-      go true =
+      go : (b : Bool) → AtMostOwn (joined (map f (filter test slots))) n → AtMostOwn (joined (map f (cond b (x ∷ filter test slots) (filter test slots)))) n
+      go true more =
           let none : AtMostOwn (f x) 0 = λ counts zip. omega arith in
           count.less (f x ++ joined (map f (filter test slots))) (0 + n) n (omega arith) (count.joins (f x) (joined (map f (filter test slots))) 0 n none more)
-      go false = more
+      go false more = more
 
 -- Between two times
 
@@ -122,20 +119,22 @@ module _ (law : FirstRunsGoOn) (run : GoodRunGoesOn) (begin : SlotsBegin) (count
 
     -- a state that begins a slot of that time is that one
     one-state : (begins : State) → begins.time ≡ beside.time → BeginsInFirstRun (faulty_machine design fault) begins → was.begins ≡ begins
-    one-state begins time other = ap (λ (s : FirstSlot). s.begins) (elim (cases_lt was.in_run.number other.number) [
-      | inl less ↦ absurd (let rise = rise-at slots rising was.in_run.number other.number _ _ less there here in omega (arith, rise, early))
-      | inr by ↦ elim (cases_lt other.number was.in_run.number) [
-        | inl less ↦ absurd (let rise = rise-at slots rising other.number was.in_run.number _ _ less here there in omega (arith, rise, early))
-        | inr low ↦
-            let same : was.in_run.number ≡ other.number = omega (arith, by, low) in
-            some-slot (slot_from (faulty_machine design fault) was.begins) (slot_from (faulty_machine design fault) begins) (sym there ∙ ap (slice_get slots) same ∙ here)
-      ]
-    ])
+    one-state begins time other =
+        let same : slot_from (faulty_machine design fault) was.begins ≡ slot_from (faulty_machine design fault) begins = elim (cases_lt was.in_run.number other.number) [
+          | inl less ↦
+              absurd (let rise = rise-at (first_run (faulty_machine design fault) begins.time) rising was.in_run.number other.number _ _ less there here in omega (arith, rise, early))
+          | inr by ↦ elim (cases_lt other.number was.in_run.number) [
+            | inl less ↦
+                absurd (let rise = rise-at (first_run (faulty_machine design fault) begins.time) rising other.number was.in_run.number _ _ less here there in omega (arith, rise, early))
+            | inr low ↦
+                let number : was.in_run.number ≡ other.number = omega (arith, by, low) in
+                some-slot (slot_from (faulty_machine design fault) was.begins) (slot_from (faulty_machine design fault) begins)
+                (sym there ∙ ap (slice_get (first_run (faulty_machine design fault) begins.time)) number ∙ here)
+          ]
+        ] in
+        ap (λ (s : FirstSlot). s.begins) same
       where
-        abbrev slots : List FirstSlot
-        slots = first_run (faulty_machine design fault) begins.time
-
-        rising : Rise slots
+        rising : Rise (first_run (faulty_machine design fault) begins.time)
         rising = law.rise (faulty_machine design fault) begins.time rules
 
         early : was.begins.time ≡ begins.time
@@ -144,10 +143,10 @@ module _ (law : FirstRunsGoOn) (run : GoodRunGoesOn) (begin : SlotsBegin) (count
         some-slot : (x y : FirstSlot) → Some x ≡ Some y → x ≡ y
         some-slot x y e = cc
 
-        here : slice_get slots other.number ≡ Some (slot_from (faulty_machine design fault) begins)
+        here : slice_get (first_run (faulty_machine design fault) begins.time) other.number ≡ Some (slot_from (faulty_machine design fault) begins)
         here = other.stands begins.time (omega arith)
 
-        there : slice_get slots was.in_run.number ≡ Some (slot_from (faulty_machine design fault) was.begins)
+        there : slice_get (first_run (faulty_machine design fault) begins.time) was.in_run.number ≡ Some (slot_from (faulty_machine design fault) was.begins)
         there = was.in_run.stands begins.time (let e = early in omega (arith, e))
 
     were-there : (begins : State) → begins.time ≡ beside.time → BeginsInFirstRun (faulty_machine design fault) begins →

@@ -126,6 +126,14 @@ module _ (law : FirstRunsGoOn) (run : GoodRunGoesOn) (design : FlatDesign) (plan
       IsByToo (time_at design plan before) (led_to (time_at design plan before) until) × IsByToo (led_to (time_at design plan before) until) (time_at design plan through)
   behind before through ending until leads = (led-from before through ending until leads, led-behind before through ending until leads)
 
+  -- the slot behind comes after the time to which so many lead
+  before-next : (until gone : ℕ) (next : FirstSlot) → slice_get (good_slots design plan) gone ≡ Some next → (time : ℕ) → until ≡ time → time_at design plan gone ≡ Some time →
+      until < next.begins.time
+  before-next until gone next there time same at =
+      let after : comes_after (Some time) next.begins.time ≡ true = subst (λ (o : Option ℕ). comes_after o next.begins.time ≡ true) at (next-after gone next there) in
+      let less : time < next.begins.time = ltb-true time next.begins.time after in
+      omega (arith, same, less)
+
   -- the slots behind them come after it
   pub after-until : (before through until : ℕ) (ending : WindowEnd) → LeadsTo design plan before through ending (Some until) → (k : ℕ) (slot : FirstSlot) → through ≤ k →
       slice_get (good_slots design plan) k ≡ Some slot → until < slot.begins.time
@@ -135,13 +143,13 @@ module _ (law : FirstRunsGoOn) (run : GoodRunGoesOn) (design : FlatDesign) (plan
       none all = absurd (let there = slice_get_within (good_slots design plan) k slot here in omega (arith, there, all, high))
 
       go : (ending : WindowEnd) → EndsSo design plan through ending (Some until) → until < slot.begins.time
-      go IsOpen so = open so.0 (some-time until so.0 so.1) so.2.time_is so.2.more
+      go IsOpen so = goes-on so.0 (some-time until so.0 so.1) so.2.time_is so.2.more
         where
-          open : (time : ℕ) → until ≡ time → time_at design plan through ≡ Some time → through < length (good_slots design plan) → until < slot.begins.time
-          open time same at more =
+          goes-on : (time : ℕ) → until ≡ time → time_at design plan through ≡ Some time → through < length (good_slots design plan) → until < slot.begins.time
+          goes-on time same at more =
               elim (slice_get_cases (good_slots design plan) through).1 [
                 | inl found ↦
-                    let first : until < found.0.begins.time = before-next through found.0 found.2 time same at in
+                    let first : until < found.0.begins.time = before-next until through found.0 found.2 time same at in
                     elim (cases_lt through k) [
                       | inl less ↦ (let rise = slots-rise law design plan rules through k found.0 slot less found.2 here in omega (arith, first, rise))
                       | inr by ↦
@@ -152,12 +160,5 @@ module _ (law : FirstRunsGoOn) (run : GoodRunGoesOn) (design : FlatDesign) (plan
                     ]
                 | inr past ↦ absurd (omega (arith, past.0, more))
               ]
-
-          before-next : (gone : ℕ) (next : FirstSlot) → slice_get (good_slots design plan) gone ≡ Some next → (time : ℕ) → until ≡ time → time_at design plan gone ≡ Some time →
-              until < next.begins.time
-          before-next gone next there time same at =
-              let after : comes_after (Some time) next.begins.time ≡ true = subst (λ (o : Option ℕ). comes_after o next.begins.time ≡ true) at (next-after gone next there) in
-              let less : time < next.begins.time = ltb-true time next.begins.time after in
-              omega (arith, same, less)
       go IsThrough so = none so.0.all
       go (IsRaced pair) so = none so.0.all

@@ -105,14 +105,14 @@ tried-slot : SlotsLieBetween → (design : FlatDesign) (plan : TestPlan) (fault 
 tried-slot lie design plan fault beside now begins ahead taken = go (nat_eq begins.time beside.time) refl
   where
     other : (begins.time ≡ beside.time → ⊥) → tried_in beside now (Some begins.time) ≤ 0
-    other no = elim (cases_lt begins.time beside.time) [
+    other differ = elim (cases_lt begins.time beside.time) [
       | inl late ↦
           let past : nat_le beside.time begins.time ≡ false = lt-leb beside.time begins.time late in
           let none : tried_in beside now (Some begins.time) ≡ 0 =
           none-of (length beside.tried.now) (comes_after now beside.time) (nat_le beside.time begins.time) (λ by. cc) in
           omega (arith, none)
       | inr by ↦
-          let low : beside.time < begins.time = omega (arith, by, no) in
+          let low : beside.time < begins.time = omega (arith, by, differ) in
           let same : tried_in beside now (Some begins.time) ≡ tried_in beside now (Some beside.time) =
           ap (λ b. if comes_after now beside.time && b then length beside.tried.now else 0)
           (le-leb beside.time begins.time by ∙ sym (le-leb beside.time beside.time (omega arith))) in

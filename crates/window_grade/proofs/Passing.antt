@@ -14,9 +14,9 @@ use Rattle.v_design.specs.WellFormed.{IsAscending}
 use Rattle.strobe_detect.specs.Graders.{IsWatched}
 use Rattle.copy_laws.specs.Windows.{state_at}
 use Rattle.grade_laws.specs.Ahead.{StopsAfter}
-use Rattle.grade_laws.specs.Decisions.{NotBefore, none-before, not-before}
+use Rattle.grade_laws.specs.Decisions.{NotBefore, none-before}
 use Rattle.grade_laws.specs.Strobes.{ascending-later, all-since}
-use Rattle.grade_laws.specs.Grading.{good_stop, faulty_seen, faulty_stop, times}
+use Rattle.grade_laws.specs.Grading.{good_seen, good_stop, faulty_seen, faulty_stop, times}
 use Rattle.machine.specs.Standing.{state_kept}
 use Rattle.machine.specs.declared.parts.Machine.{Machine as Simulated}
 use Rattle.fault_grade.specs.Benches.{IsObjectOf}
@@ -89,6 +89,10 @@ by-end time end (Some found) h e = leb-true time found e
 stop-not-before : (time until : ℕ) (stop : Option Stop) → time ≤ until → StopsAfter until stop → NotBefore time stop
 stop-not-before time until None h a = tt
 stop-not-before time until (Some stop) h a = omega (arith, h, a)
+
+not-before : (time : ℕ) (stop : Option Stop) → NotBefore time stop → by_then time (stop_time stop) ≡ true
+not-before time None h = refl
+not-before time (Some stop) h = le-leb time stop.time h
 
 -- no strobe up to a time may have ended it
 hard-since : (design : FlatDesign) (plan : TestPlan) (fault : StuckAt) (passed next : List ℕ) (said : Said) (time : ℕ) → plan.strobes ≡ passed ++ next →

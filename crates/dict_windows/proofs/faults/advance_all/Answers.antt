@@ -6,7 +6,7 @@ use Rattle.dict_windows.proofs.Shards.{passed-none, passed-more, passed-all, fau
 use Rattle.dict_windows.proofs.faults.advance_all.Goals as goal
 
 pub shards-init : goal.shards-init
-shards-init g c = record { count = refl; faults = refl; passed = passed-none _ _ c.args.shards.now.items c.requires; ticks = omega arith }
+shards-init g c = record { count = refl; faults = refl; passed = passed-none _ _ c.args.shards.now.items c.requires; ticks = λ tally. omega arith }
 
 pub index_mut-own-requires : goal.index_mut-own-requires
 index_mut-own-requires g c =
@@ -32,9 +32,9 @@ shards-preserved g c =
           (c.in_ok-advance.ensures.numbers ∙ ap (λ (own : KeepingShard). numbers_of own.kept) c.index_mut-own.ensures.value)
           ∙ c.shards.invariant.faults;
       passed = passed-more _ _ c.shards.shards.items c.shards.place c.advance.new.self low c.in_ok-advance.ensures.gone c.shards.invariant.passed;
-      ticks =
-          steps-set g.N.World.design g.N.World.plan c.shards.shards.items c.shards.place c.index_mut-own.result.now c.advance.new.self _ c.args.steps.now c.shards.steps
-          c.advance.new.steps low c.index_mut-own.ensures.value c.shards.invariant.ticks c.in_ok-advance.ensures.ticks;
+      ticks = λ tally.
+          steps-set g.N.World.design g.N.World.plan tally c.shards.shards.items c.shards.place c.index_mut-own.result.now c.advance.new.self _ c.args.steps.now c.shards.steps
+          c.advance.new.steps low c.index_mut-own.ensures.value (c.shards.invariant.ticks tally) (c.in_ok-advance.ensures.ticks tally);
     }
 
 pub returns-clause-gone : goal.returns-clause-gone

@@ -26,8 +26,8 @@ shards-preserved g c =
           kept-more (faults_in all) before after c.in-Some.shard rest (subst (λ (l : List KeepingShard). faults_in all ≡ numbers_of before ++ faults_in l) next c.shards.invariant.faults)
           c.in_ok-push_kept.ensures.faults;
       whole = c.in_ok-push_kept.ensures.whole c.shards.invariant.whole;
-      steps = λ rules.
-          steps-more design plan (all_steps tally all) before after c.in-Some.shard rest
-          (subst (λ (l : List KeepingShard). all_steps tally all ≤ sum_by (full_steps_at tally) (numbers_of before) + all_steps tally l) next (c.shards.invariant.steps rules))
-          (c.in_ok-push_kept.ensures.steps rules) c.in_ok-push_kept.ensures.faults;
+      steps = λ tally.
+          steps-more design plan tally (all_steps tally all) before after c.in-Some.shard rest
+          (subst (λ (l : List KeepingShard). all_steps tally all ≤ sum_by (full_steps_at tally) (numbers_of before) + all_steps tally l) next (c.shards.invariant.steps tally))
+          (c.in_ok-push_kept.ensures.steps tally) c.in_ok-push_kept.ensures.faults;
     }

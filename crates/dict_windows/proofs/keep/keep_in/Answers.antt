@@ -1,6 +1,7 @@
 -- Before the first window, and behind the last one.
-use Rattle.std.proofs.Common.{◌≤◌, List, sym, subst, ◌∙◌, refl}
-use Rattle.std.specs.Prelude.{Option, sum_by}
+use Rattle.std.proofs.Common.{◌≡◌, ◌+◌, ◌≤◌, true, List, sym, subst, ◌∙◌, refl, arith}
+use Rattle.std.specs.Prelude.{Option, sum, sum_by}
+use Rattle.v_design.specs.OwnSteps.{good_steps}
 use Rattle.kept_shard.specs.Keeping.{full_steps_at}
 use Rattle.fault_shards.specs.Shards.{representatives_of}
 use Rattle.dict_windows.specs.Faults.{all_steps}
@@ -38,7 +39,15 @@ returns-clause-ticks g c =
     let design = g.N.World.design in
     let plan = g.N.World.plan in
     let moved = c.go_through.new.beside.shards.items in
-    rises-all design plan c.args.ahead.now.run.ran c.go_through.new.ahead.run.ran c.args.steps.now c.go_through.new.steps (sum_by (full_steps_at tally) (representatives_of c.args.shards.now))
-    c.in_ok-own.own.items moved c.in_ok-loops.ensures.ticks c.requires.none.1
-    (subst (λ (l : List _). all_steps tally moved ≤ sum_by (full_steps_at tally) l) (c.in_ok-loops.ensures.faults ∙ c.in_ok-own.ensures.faults)
-    (c.in_ok-faults.ensures.steps c.rules_hold.ensures))
+    let numbers = representatives_of c.args.shards.now in
+    record {
+      within = λ steps each. c.own_steps_rise.ensures.exist design plan c.go_through.new.steps (c.args.steps.now + (good_steps design plan + sum steps)) (λ tally.
+          let most = rises-all design plan tally c.args.ahead.now.run.ran c.go_through.new.ahead.run.ran c.args.steps.now c.go_through.new.steps (sum_by (full_steps_at tally) numbers)
+          c.in_ok-own.own.items moved c.in_ok-loops.ensures.ticks c.requires.none.1
+          (subst (λ (l : List _). all_steps tally moved ≤ sum_by (full_steps_at tally) l) (c.in_ok-loops.ensures.faults ∙ c.in_ok-own.ensures.faults)
+          (c.in_ok-faults.ensures.steps tally)) in
+          let all : sum_by (full_steps_at tally) numbers ≡ sum steps =
+          c.own_steps_rise.ensures.sums design plan tally true numbers steps
+          (λ number found. (let is = (c.requires.shards.representatives.each number).0 found in (is.fault, is.listed))) each in
+          omega (arith, most, all));
+    }

@@ -15,6 +15,9 @@ run_faulty-requires-clause-run g c =
 pub run_faulty-requires-clause-goods : goal.run_faulty-requires-clause-goods
 run_faulty-requires-clause-goods g c = c.requires.goods
 
+pub run_faulty-requires-clause-few : goal.run_faulty-requires-clause-few
+run_faulty-requires-clause-few g c = c.requires.few
+
 pub returns-clause-whole : goal.returns-clause-whole
 returns-clause-whole g c = c.in_ok-ran.ensures.whole
 

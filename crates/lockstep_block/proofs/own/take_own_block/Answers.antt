@@ -13,8 +13,8 @@ use Rattle.lockstep_steps.specs.lockstep_slots.Places.{state_there, behind_event
 use Rattle.faulty_block.specs.Runs.{MayRun, RanBlock}
 use Rattle.faulty_block.specs.moment_shown.Shown.{Shows}
 use Rattle.lockstep_block.specs.Beside.{acts_beside}
-use Rattle.lockstep_block.proofs.OwnBlocks.{BlockLaws, goes-there, may-compare, may-run, more-tried, noted-goes, ran-beside, spent, ticks-told, tried-there}
-use Rattle.lockstep_block.proofs.OwnRuns.{RunLaws, goods, numbers, tells-goods}
+use Rattle.lockstep_block.proofs.OwnBlocks.{BlockLaws, goes-there, may-compare, may-run, noted-goes, ran-beside, spent, ticks-told, tried-there}
+use Rattle.lockstep_block.proofs.OwnRuns.{RunLaws, few-goods, goods, numbers, tells-goods}
 use Rattle.lockstep_block.proofs.own.take_own_block.Goals as goal
 
 pub good_phase-goods-requires : goal.good_phase-goods-requires
@@ -47,6 +47,23 @@ run_beside-requires-clause-goods g c κs within =
       numbers = numbers run laws;
       tells = tells-goods run laws c.good_phase-goods.result (c.good_phase-goods.ensures run.place run.beside.before_at);
     }
+
+pub run_beside-requires-clause-few : goal.run_beside-requires-clause-few
+run_beside-requires-clause-few g c κs within =
+    let run = c.requires.run in
+    let laws : RunLaws = record {
+      time = c.own_runs.ensures.time;
+      runs = c.blocks_are_told.ensures.runs;
+      join = c.blocks_are_told.ensures.join;
+      whole = c.run_blocks_are_whole.ensures;
+      are = c.shared_runs.ensures.runs;
+      steps = c.slot_steps_go_on.ensures;
+      slots = c.own_steps_of_slots.ensures.slots;
+      numbers = c.run_numbers_go_on.ensures;
+      tried = c.tried_steps_go_on.ensures;
+      event = c.stretches_go_on.ensures.event;
+    } in
+    few-goods run laws c.good_phase-goods.result (c.good_phase-goods.ensures run.place run.beside.before_at)
 
 pub returns-in_default-clause-room : goal.returns-in_default-clause-room
 returns-in_default-clause-room g c = record { before_is = refl; behind_is = refl; counts_is = refl; whole = c.in_ok-ran.ensures.whole; machine_is = c.in_ok-ran.ensures.machine }
@@ -180,7 +197,7 @@ returns-clause-took g c = λ yes of.
     (Shows c.show-good.result) c.moment-first.ensures c.moment-end.ensures c.changed.ensures (c.show-good.ensures.shows there shown) (spent taken one.spare few) c.in_ok-note_block.ensures.wider
     (c.in_ok-note_block.ensures.taken fault) (c.in_ok-note_block.ensures.told fault) in
     goes-there of laws run_laws taken runner told kept ended more ran new compared fit side c.own_runs.ensures.time later (one.spare - taken) tried_new c.note_ended.new.apart.items good_ended is
-    (more-tried one.tried.items tried_new c.args.steps.now c.run_beside.new.steps c.in_ok-ran.ensures.ticks)
+    (sym c.in_ok-ran.ensures.ticks.more)
     (c.good_ended-ended.ensures of.place of.block of.rest of.beside.before_at of.beside.parts of.beside.behind_at) c.in_ok-note_ended.ensures going
 
 pub returns-clause-fault : goal.returns-clause-fault

@@ -146,7 +146,11 @@ take_own-requires-clause-goes g c κs within =
     own-again design plan c.args.time room.runner room.before c.pass_block.new.self room.counts c.faults.room.runner c.faults.room.before c.faults.room.behind c.faults.room.counts
     c.faults.invariant.waits window.before window.through may.time_is (fault_of each.fault) each.one.notes each.one.own each.one.spare each.one.tried.items each.one.apart.items
     (may-run-own design plan (fault_of each.fault) on.may.slot on.may.begins window.before window.through on.may.number on.may.place room.runner room.before room.behind c.pass_block.new.self
-    each.one.notes each.one.own each.one.spare each.one.tried.items each.one.apart.items on.may.on (c.in_ok-pass_block.ensures on.may.place on.may.on.room.at.behind_at (omega (arith, ends, more))) room.counts may.counts_are)
+    each.one.notes each.one.own each.one.spare each.one.tried.items each.one.apart.items on.may.on (c.in_ok-pass_block.ensures on.may.place on.may.on.room.at.behind_at (omega (
+      arith,
+      ends,
+      more,
+    ))) room.counts may.counts_are)
 
 pub faults-preserved : goal.faults-preserved
 faults-preserved g c =
@@ -247,7 +251,8 @@ returns-clause-on g c =
     let blocks = c.args.view.now.blocks.now in
     let waits = c.faults.invariant.waits in
     let laws : PhaseLaws =
-    phase-laws c.places_are_told.ensures c.phases_follow.ensures.phases c.blocks_are_told.ensures.end c.blocks_are_told.ensures.join c.steps_go_on.ensures c.limits_tell.ensures c.own_steps_go_on.ensures in
+    phase-laws c.places_are_told.ensures c.phases_follow.ensures.phases c.blocks_are_told.ensures.end c.blocks_are_told.ensures.join c.steps_go_on.ensures c.limits_tell.ensures
+    c.own_steps_go_on.ensures in
     let next = c.pass_block-2.new.self in
     let runner = c.follow_block.new.runner in
     let taken : BlockIsTaken design plan room.runner room.before room.behind c.pass_block.new.self c.faults.room.runner runner next =
@@ -280,7 +285,8 @@ returns-clause-more g c =
     let blocks = c.args.view.now.blocks.now in
     let waits = c.faults.invariant.waits in
     let laws : PhaseLaws =
-    phase-laws c.places_are_told.ensures c.phases_follow.ensures.phases c.blocks_are_told.ensures.end c.blocks_are_told.ensures.join c.steps_go_on.ensures c.limits_tell.ensures c.own_steps_go_on.ensures in
+    phase-laws c.places_are_told.ensures c.phases_follow.ensures.phases c.blocks_are_told.ensures.end c.blocks_are_told.ensures.join c.steps_go_on.ensures c.limits_tell.ensures
+    c.own_steps_go_on.ensures in
     let next = c.pass_block-2.new.self in
     let runner = c.follow_block.new.runner in
     let taken : BlockIsTaken design plan room.runner room.before room.behind c.pass_block.new.self c.faults.room.runner runner next =

@@ -1,5 +1,5 @@
 -- A fault that still goes, and whose stop isn't ahead, takes a block of its own.
-use Rattle.std.proofs.Common.{◌≤◌, length, refl, sym, ap, subst, ◌∙◌, arith}
+use Rattle.std.proofs.Common.{length, refl, sym, ap, subst, ◌∙◌, arith}
 use Rattle.std.proofs.lemmas.Bool.{false≢true}
 use Rattle.v_design.specs.Plain.{fault_of}
 use Rattle.lockstep_turn.specs.graded_steps.Behind.{RisesWithin}
@@ -172,4 +172,5 @@ returns-then-not-branch-clause-ticks g c = c.in_ok-run_own_block.ensures.ticks
 
 pub returns-clause-ticks : goal.returns-clause-ticks
 returns-clause-ticks g c =
-    subst (λ (e : FaultBeside). RisesWithin (length c.args.each.now.one.tried.items) (length e.one.tried.items) c.args.steps.now c.run_own_block.new.steps) (sym c.look_ahead.ensures.same) c.in_ok-run_own_block.ensures.ticks
+    subst (λ (e : FaultBeside). RisesWithin (length c.args.each.now.one.tried.items) (length e.one.tried.items) c.args.steps.now c.run_own_block.new.steps) (sym c.look_ahead.ensures.same)
+    c.in_ok-run_own_block.ensures.ticks

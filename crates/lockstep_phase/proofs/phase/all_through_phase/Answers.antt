@@ -96,7 +96,8 @@ returns-clause-faults g c =
     subst (λ m. AllZip (LooksAhead design plan window.before window.through blocks.moments m end) c.args.faults.now.items looked.items) c.moment-moment.ensures c.look_ahead_all.ensures in
     let new = c.go_to_end.new.room in
     let gone = c.go_to_end.new.faults in
-    all-through design plan window.before window.through blocks.moments end room.runner room.before room.behind ends new.runner new.before new.behind c.steps_go_on.ensures c.in_ok-go_to_end.ensures.past
+    all-through design plan window.before window.through blocks.moments end room.runner room.before room.behind ends new.runner new.before new.behind c.steps_go_on.ensures
+    c.in_ok-go_to_end.ensures.past
     room.counts new.counts c.args.faults.now.items looked.items gone.items c.ask_all.new.faults.items looks c.in_ok-go_to_end.ensures.on c.ask_all.ensures
 
 pub returns-clause-room : goal.returns-clause-room
@@ -112,7 +113,8 @@ returns-clause-room g c =
     c.stands.ensures c.phase_ends-ends.result.now end c.phase-phase.result c.phase_ends-ends.ensures c.phase-phase.ensures refl in
     let new = c.go_to_end.new.room in
     let gone = c.go_to_end.new.faults in
-    room-through design plan window.before window.through blocks.moments end room.runner room.before room.behind ends new.runner new.before new.behind c.steps_go_on.ensures c.in_ok-go_to_end.ensures.past
+    room-through design plan window.before window.through blocks.moments end room.runner room.before room.behind ends new.runner new.before new.behind c.steps_go_on.ensures
+    c.in_ok-go_to_end.ensures.past
     room.counts new.counts c.look_ahead_all.new.faults.items gone.items c.in_ok-go_to_end.ensures.on
 
 pub returns-clause-counts : goal.returns-clause-counts
@@ -133,7 +135,8 @@ returns-clause-time g c =
     c.stands.ensures c.phase_ends-ends.result.now end c.phase-phase.result c.phase_ends-ends.ensures c.phase-phase.ensures refl in
     let new = c.go_to_end.new.room in
     let gone = c.go_to_end.new.faults in
-    time-through design plan window.before window.through blocks.moments end room.runner room.before room.behind ends new.runner new.before new.behind c.steps_go_on.ensures c.in_ok-go_to_end.ensures.past
+    time-through design plan window.before window.through blocks.moments end room.runner room.before room.behind ends new.runner new.before new.behind c.steps_go_on.ensures
+    c.in_ok-go_to_end.ensures.past
     room.counts new.counts c.look_ahead_all.new.faults.items gone.items c.in_ok-go_to_end.ensures.on at
 
 pub returns-clause-ticks : goal.returns-clause-ticks

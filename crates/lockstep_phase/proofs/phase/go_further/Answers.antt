@@ -23,7 +23,8 @@ pass_until-requires-clause-target g c κs within =
     let ends = may.ends in
     let more = c.requires.more in
     let laws : PhaseLaws =
-    phase-laws c.places_are_told.ensures c.phases_follow.ensures.phases c.blocks_are_told.ensures.end c.blocks_are_told.ensures.join c.steps_go_on.ensures c.limits_tell.ensures c.own_steps_go_on.ensures in
+    phase-laws c.places_are_told.ensures c.phases_follow.ensures.phases c.blocks_are_told.ensures.end c.blocks_are_told.ensures.join c.steps_go_on.ensures c.limits_tell.ensures
+    c.own_steps_go_on.ensures in
     let are = moments-there design plan window.before window.through blocks c.requires.window.blocks_begin c.requires.window.blocks_end c.stands.ensures in
     let least : c.least_until-least.result ≡ fold sooner_of c.args.end c.args.faults.now.items = c.least_until-least.ensures ∙ ap (fold sooner_of c.args.end) c.deref.ensures.value in
     let stop =
@@ -50,7 +51,8 @@ take_block-requires-clause-may g c κs within =
     let ends = may.ends in
     let more = c.requires.more in
     let laws : PhaseLaws =
-    phase-laws c.places_are_told.ensures c.phases_follow.ensures.phases c.blocks_are_told.ensures.end c.blocks_are_told.ensures.join c.steps_go_on.ensures c.limits_tell.ensures c.own_steps_go_on.ensures in
+    phase-laws c.places_are_told.ensures c.phases_follow.ensures.phases c.blocks_are_told.ensures.end c.blocks_are_told.ensures.join c.steps_go_on.ensures c.limits_tell.ensures
+    c.own_steps_go_on.ensures in
     let new = c.pass_until.new.room in
     let are = moments-there design plan window.before window.through blocks c.requires.window.blocks_begin c.requires.window.blocks_end c.stands.ensures in
     let least : c.least_until-least.result ≡ fold sooner_of c.args.end c.args.faults.now.items = c.least_until-least.ensures ∙ ap (fold sooner_of c.args.end) c.deref.ensures.value in
@@ -76,7 +78,8 @@ returns-then-least-end-clause-on g c =
     let ends = may.ends in
     let more = c.requires.more in
     let laws : PhaseLaws =
-    phase-laws c.places_are_told.ensures c.phases_follow.ensures.phases c.blocks_are_told.ensures.end c.blocks_are_told.ensures.join c.steps_go_on.ensures c.limits_tell.ensures c.own_steps_go_on.ensures in
+    phase-laws c.places_are_told.ensures c.phases_follow.ensures.phases c.blocks_are_told.ensures.end c.blocks_are_told.ensures.join c.steps_go_on.ensures c.limits_tell.ensures
+    c.own_steps_go_on.ensures in
     let new = c.pass_until.new.room in
     let are = moments-there design plan window.before window.through blocks c.requires.window.blocks_begin c.requires.window.blocks_end c.stands.ensures in
     let least : c.least_until-least.result ≡ fold sooner_of c.args.end c.args.faults.now.items = c.least_until-least.ensures ∙ ap (fold sooner_of c.args.end) c.deref.ensures.value in
@@ -98,7 +101,8 @@ returns-then-least-end-clause-more g c =
     let ends = may.ends in
     let more = c.requires.more in
     let laws : PhaseLaws =
-    phase-laws c.places_are_told.ensures c.phases_follow.ensures.phases c.blocks_are_told.ensures.end c.blocks_are_told.ensures.join c.steps_go_on.ensures c.limits_tell.ensures c.own_steps_go_on.ensures in
+    phase-laws c.places_are_told.ensures c.phases_follow.ensures.phases c.blocks_are_told.ensures.end c.blocks_are_told.ensures.join c.steps_go_on.ensures c.limits_tell.ensures
+    c.own_steps_go_on.ensures in
     let are = moments-there design plan window.before window.through blocks c.requires.window.blocks_begin c.requires.window.blocks_end c.stands.ensures in
     let least : c.least_until-least.result ≡ fold sooner_of c.args.end c.args.faults.now.items = c.least_until-least.ensures ∙ ap (fold sooner_of c.args.end) c.deref.ensures.value in
     let stop =
@@ -120,7 +124,8 @@ returns-clause-on g c =
     let ends = may.ends in
     let more = c.requires.more in
     let laws : PhaseLaws =
-    phase-laws c.places_are_told.ensures c.phases_follow.ensures.phases c.blocks_are_told.ensures.end c.blocks_are_told.ensures.join c.steps_go_on.ensures c.limits_tell.ensures c.own_steps_go_on.ensures in
+    phase-laws c.places_are_told.ensures c.phases_follow.ensures.phases c.blocks_are_told.ensures.end c.blocks_are_told.ensures.join c.steps_go_on.ensures c.limits_tell.ensures
+    c.own_steps_go_on.ensures in
     let new = c.pass_until.new.room in
     let are = moments-there design plan window.before window.through blocks c.requires.window.blocks_begin c.requires.window.blocks_end c.stands.ensures in
     let least : c.least_until-least.result ≡ fold sooner_of c.args.end c.args.faults.now.items = c.least_until-least.ensures ∙ ap (fold sooner_of c.args.end) c.deref.ensures.value in

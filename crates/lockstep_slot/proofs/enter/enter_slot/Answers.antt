@@ -1,5 +1,5 @@
 -- The steps that the slot's events leave are to spare.
-use Rattle.std.proofs.Common.{◌≡◌, ◌+◌, suc, length, refl, sym, ap, subst, ◌∙◌, arith}
+use Rattle.std.proofs.Common.{◌≡◌, ◌+◌, suc, length, sym, ap, subst, ◌∙◌, arith}
 use Rattle.v_design.specs.Plain.{fault_of}
 use Rattle.copy_state.specs.Copied.{KeepsSame}
 use Rattle.copy_state.specs.Kept.{CopyKept}
@@ -37,7 +37,7 @@ returns-clause-begins g c = λ one is.
     (enters c.slots_are_counted.ensures g.N.World.design g.N.World.plan (fault_of c.args.fault) window.before window.through c.args.slot c.first_moment-first.result c.first_moment-behind.result
     c.args.copy.now it c.requires.slot c.requires.copy c.first_moment-first.ensures.moment c.first_moment-behind.ensures.moment
     (subst (KeepsSame c.args.copy.now) (sym c.begin_slot-own.ensures.copy) c.in_ok-kept.ensures) c.begin_slot-own.ensures.lanes c.clear.ensures
-    (let some = c.in-Some.ensures.0 in let is = c.in-Some.ensures.1 in omega (arith, some, is)) c.new-tried.ensures c.new-apart.ensures)
+    (let some = c.in-Some.ensures.0 in let is = c.in-Some.ensures.1 in omega (arith, some, is)) c.new-tried.ensures.items c.new-apart.ensures.items)
 
 pub returns-clause-rest : goal.returns-clause-rest
 returns-clause-rest g c = λ one is.

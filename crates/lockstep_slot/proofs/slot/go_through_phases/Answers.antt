@@ -23,7 +23,8 @@ phases-init g c =
     let room = c.args.room.now in
     record {
       counts = c.requires.counts;
-      come = first-come g.N.World.design g.N.World.plan window.before window.through c.args.slot c.args.now c.args.last c.args.faults.now.items c.requires.begins c.steps_go_on.ensures c.own_steps_go_on.ensures
+      come = first-come g.N.World.design g.N.World.plan window.before window.through c.args.slot c.args.now c.args.last c.args.faults.now.items c.requires.begins c.steps_go_on.ensures
+          c.own_steps_go_on.ensures
           c.moments_stand.ensures c.slots_are_counted.ensures (plan-early g.N.World.plan c.plan-plan.result.now c.plan-plan.ensures.world) room.runner room.before room.behind c.requires.at
           c.requires.time c.requires.last;
       ticks = omega arith;
@@ -156,7 +157,8 @@ phases-preserved g c =
       counts = subst (AreCounts design) (sym (c.in_ok-take_turn.ensures.counts ∙ c.in_ok-all_through_phase.ensures.counts)) c.phases.invariant.counts;
       come = next-come design plan window.before window.through c.args.slot c.args.now c.args.last c.args.faults.now.items c.requires.begins room.runner room.before room.behind c.phases.faults.items
           come through.runner through.before through.behind c.all_through_phase.new.faults.items c.in_ok-all_through_phase.ensures.room c.in_ok-all_through_phase.ensures.faults more some
-          turned.runner turned.before turned.behind c.in_ok-take_turn.ensures.turns c.steps_go_on.ensures c.own_steps_go_on.ensures c.phases_follow.ensures.phases c.lanes_tell_turns.ensures c.requires.now
+          turned.runner turned.before turned.behind c.in_ok-take_turn.ensures.turns c.steps_go_on.ensures c.own_steps_go_on.ensures c.phases_follow.ensures.phases c.lanes_tell_turns.ensures
+          c.requires.now
           c.turn_each.new.faults.items c.in_ok-turn_each.ensures;
       ticks =
           (let before = c.phases.invariant.ticks in
@@ -227,7 +229,8 @@ returns-clause-faults g c =
     let at = c.phase.ensures in
     let few : c.args.last ≤ room.before.phase + 1 = omega (arith, test, at) in
     all-behind design plan window.before window.through c.args.slot c.args.now c.args.last c.args.faults.now.items c.requires.begins room.runner room.before room.behind c.phases.faults.items come
-    through.runner through.before through.behind c.all_through_phase-2.new.faults.items c.in_ok-all_through_phase-2.ensures.room c.in_ok-all_through_phase-2.ensures.faults c.steps_go_on.ensures c.own_steps_go_on.ensures
+    through.runner through.before through.behind c.all_through_phase-2.new.faults.items c.in_ok-all_through_phase-2.ensures.room c.in_ok-all_through_phase-2.ensures.faults
+    c.steps_go_on.ensures c.own_steps_go_on.ensures
     c.kept_ends.ensures few (subst (AllHold KeepsAscending) c.deref-2.ensures.value c.ascending_each.ensures)
 
 pub returns-clause-room : goal.returns-clause-room

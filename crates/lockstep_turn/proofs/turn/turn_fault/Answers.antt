@@ -24,6 +24,6 @@ returns g c = record {
   spare = refl;
   tried = refl;
   turns = λ still. c.in_ok-turn_all_writes.ensures;
-  together = λ still. c.clear-2.ensures;
+  together = λ still. c.clear-2.ensures.items;
   cleared = λ still. subst (λ n. HasNoNotes n c.clear.new.self) c.moment.ensures c.clear.ensures;
 }

@@ -15,4 +15,4 @@ returns-clause-faults g c =
     c.in_ok-advance.ensures.places ∙ (ap (λ (kept : ShardKept). places_of kept.faults) c.in_ok-own.ensures ∙ (places-fresh _ ∙ c.shard-faults.ensures))
 
 pub returns-clause-ticks : goal.returns-clause-ticks
-returns-clause-ticks g c = omega (arith, c.in_ok-advance.ensures.ticks)
+returns-clause-ticks g c tally = (let rises = c.in_ok-advance.ensures.ticks tally in omega (arith, rises))

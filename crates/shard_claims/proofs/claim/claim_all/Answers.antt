@@ -19,7 +19,7 @@ claims-init g c = record {
   keeps =
       subst (KeepsShards (representatives_of c.args.round.now.shards.now) c.args.round.now.window.now.through (view c.args.seat)) (sym c.new-shards.ensures.items)
       (keeps-none (representatives_of c.args.round.now.shards.now) c.args.round.now.window.now.through (view c.args.seat) c.requires.new.claimed);
-  ticks = omega arith;
+  ticks = λ tally. omega arith;
 }
 
 pub claim-next-requires-clause-share : goal.claim-next-requires-clause-share
@@ -67,9 +67,9 @@ claims-preserved g c =
           subst (KeepsShards (representatives_of c.args.round.now.shards.now) c.args.round.now.window.now.through (view c.claim-next.result.0)) (sym c.in_ok-push.ensures.items)
           (keeps-more _ _ before (view c.claim-next.result.0) c.claims.shards.items _ c.claims.invariant.keeps (ap (λ (v : View). v.claimed) after)
           (record { faults = c.in_ok-shard.ensures.faults; gone_is = c.in_ok-shard.ensures.gone }));
-      ticks =
-          claimed-more g.N.World.design g.N.World.plan c.claims.shards.items c.push.new.self.items _ c.args.steps.now c.claims.steps c.begin_shard.new.steps c.in_ok-push.ensures.items
-          c.claims.invariant.ticks c.in_ok-shard.ensures.ticks;
+      ticks = λ tally.
+          claimed-more g.N.World.design g.N.World.plan tally c.claims.shards.items c.push.new.self.items _ c.args.steps.now c.claims.steps c.begin_shard.new.steps c.in_ok-push.ensures.items
+          (c.claims.invariant.ticks tally) (c.in_ok-shard.ensures.ticks tally);
     }
 
 pub claims-smaller : goal.claims-smaller

@@ -1,5 +1,6 @@
 -- The shards that were claimed so far have gone through the window.
-use Rattle.std.proofs.Common.{◌≡◌, ◌≤◌, ◌+◌, ◌*◌, ◌-◌, []}
+use Rattle.std.proofs.Common.{◌≡◌, ◌≤◌, ◌+◌, ◌-◌, []}
+use Rattle.own_gradings.specs.Numbers.{OwnStepsOf}
 use Rattle.fault_shards.specs.Shards.{representatives_of}
 use Rattle.verdict_words.specs.Seats.{view, IsSeatOf, claims_of}
 use Rattle.verdict_words.specs.Views.{lent_share}
@@ -13,7 +14,7 @@ invariant-claims g l = record {
   moved : (view l.seat).moved ≡ [];
   calls : (view l.seat).calls ≤ claims_of l.round.board.now;
   keeps : KeepsShards (representatives_of l.round.shards.now) l.round.window.now.through (view l.seat) l.shards.items;
-  ticks : l.steps ≤ l.fn.steps + 2 * claimed_steps tally l.shards.items;
+  ticks : (tally : OwnStepsOf g.N.World.design g.N.World.plan) → l.steps ≤ l.fn.steps + claimed_steps tally l.shards.items;
 }
 
 abbrev pub decreases-claims : goal.decreases-claims

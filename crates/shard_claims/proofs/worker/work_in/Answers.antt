@@ -25,11 +25,11 @@ claim_all-requires-clause-new g c κs within =
     (is-new (representatives_of c.args.round.now.shards.now) c.args.round.now.board.now c.args.round.now.window.now.before c.args.worker c.if-dry.false c.requires.at).0
 
 pub returns-then-dry-clause-ticks : goal.returns-then-dry-clause-ticks
-returns-then-dry-clause-ticks g c =
-    dry-rises g.N.World.design g.N.World.plan c.args.worker (record c.args.worker { shards = c.advance_all.new.shards }) c.args.steps.now c.advance_all.new.steps c.if-dry.true c.if-dry.true
-    c.in_ok-advance_all.ensures.ticks
+returns-then-dry-clause-ticks g c tally =
+    dry-rises g.N.World.design g.N.World.plan tally c.args.worker (record c.args.worker { shards = c.advance_all.new.shards }) c.args.steps.now c.advance_all.new.steps c.if-dry.true c.if-dry.true
+    (c.in_ok-advance_all.ensures.ticks tally)
 
 pub returns-clause-ticks : goal.returns-clause-ticks
-returns-clause-ticks g c =
-    new-rises g.N.World.design g.N.World.plan c.args.worker (record c.args.worker { seat = c.in_ok-seat.seat; shards = c.in_ok-seat.shards; dry = true }) c.args.steps.now
-    c.claim_all.new.steps c.if-dry.false refl c.in_ok-seat.ensures.ticks
+returns-clause-ticks g c tally =
+    new-rises g.N.World.design g.N.World.plan tally c.args.worker (record c.args.worker { seat = c.in_ok-seat.seat; shards = c.in_ok-seat.shards; dry = true }) c.args.steps.now
+    c.claim_all.new.steps c.if-dry.false refl (c.in_ok-seat.ensures.ticks tally)

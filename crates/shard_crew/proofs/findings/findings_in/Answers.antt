@@ -17,7 +17,7 @@ shards-init g c = record {
   faults = ap found_faults c.new-found.ensures.items;
   graded = subst (All (IsFinding g.N.World.design g.N.World.plan)) (sym c.new-found.ensures.items) (All-nil (IsFinding g.N.World.design g.N.World.plan));
   complete = All-nil IsFoundShard;
-  steps = λ rules. omega arith;
+  steps = λ tally. omega arith;
 }
 
 pub push_found-requires-after_bounds : goal.push_found-requires-after_bounds
@@ -35,9 +35,9 @@ shards-preserved g c = record {
   complete =
       All-more IsFoundShard c.args.shards.now c.shards.claimed-index c.claimed-item.result c.shards-test.true c.shards.invariant.complete
       (subst IsFoundShard c.claimed-item.is c.in_ok-push_found.ensures.complete);
-  steps = λ rules.
-      claimed-within g.N.World.design g.N.World.plan c.args.shards.now c.shards.claimed-index c.claimed-item.result c.shards-test.true c.claimed-item.is (c.shards.invariant.steps rules)
-      (c.in_ok-push_found.ensures.steps rules);
+  steps = λ tally.
+      claimed-within g.N.World.design g.N.World.plan tally c.args.shards.now c.shards.claimed-index c.claimed-item.result c.shards-test.true c.claimed-item.is (c.shards.invariant.steps tally)
+      (c.in_ok-push_found.ensures.steps tally);
 }
 
 pub returns-clause-faults : goal.returns-clause-faults
@@ -54,7 +54,7 @@ returns-clause-complete g c =
     All-same IsFoundShard c.args.shards.now _ (sym (take_all c.shards.claimed-index c.args.shards.now past)) c.shards.invariant.complete
 
 pub returns-clause-steps : goal.returns-clause-steps
-returns-clause-steps g c = λ rules.
+returns-clause-steps g c tally =
     let past : length c.args.shards.now ≤ c.shards.claimed-index = c.shards-test.false in
     subst (λ l. claimed_steps tally l ≤ claimed_most tally l) (take_all c.shards.claimed-index c.args.shards.now past)
-    (c.shards.invariant.steps rules)
+    (c.shards.invariant.steps tally)

@@ -1,6 +1,6 @@
 -- The findings of so many shards.
 use Rattle.std.proofs.Common.{◌≡◌, ◌≤◌, take}
-use Rattle.v_design.specs.WellFormed.{KeepsRules}
+use Rattle.own_gradings.specs.Numbers.{OwnStepsOf}
 use Rattle.shard_claims.specs.copy_shard.Together.{claimed_steps}
 use Rattle.std.specs.List.{All}
 use Rattle.fault_shards.specs.Found.{IsFinding, found_faults}
@@ -12,6 +12,6 @@ invariant-shards g l = record {
   faults : found_faults l.found.items ≡ places_in (take l.claimed-index l.shards);
   graded : All (IsFinding g.N.World.design g.N.World.plan) l.found.items;
   complete : All IsFoundShard (take l.claimed-index l.shards);
-  steps : KeepsRules g.N.World.design →
+  steps : (tally : OwnStepsOf g.N.World.design g.N.World.plan) →
       claimed_steps tally (take l.claimed-index l.shards) ≤ claimed_most tally (take l.claimed-index l.shards);
 }

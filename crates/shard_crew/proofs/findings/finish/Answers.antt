@@ -14,7 +14,7 @@ workers-init g c = record {
   joined =
       joined-none g.N.World.design g.N.World.plan (representatives_of c.args.place.now.shards.now) c.args.place.now.board.now (length c.args.workers.items) c.args.count c.args.seat
       c.new-findings.result.items c.new-shards.result.items c.requires.rest c.requires.at.count_is c.new-findings.ensures.items c.new-shards.ensures.items;
-  steps = steps-none g.N.World.design g.N.World.plan c.new-shards.result.items c.args.workers.items c.new-shards.ensures.items;
+  steps = λ tally. steps-none g.N.World.design g.N.World.plan tally c.new-shards.result.items c.args.workers.items c.new-shards.ensures.items;
 }
 
 pub finish_worker-requires-clause-at : goal.finish_worker-requires-clause-at
@@ -33,9 +33,9 @@ workers-preserved g c =
           c.args.count c.workers.seat c.join-seat.result c.workers.findings.items c.extend_from_slice.new.self.items c.workers.shards.items c.append.new.self.items c.in_ok-more.more
           c.workers.invariant.joined last.0 c.in_ok-more.ensures.gathered c.join-seat.ensures.own c.join-seat.ensures.both
           (c.in_ok-extend_from_slice.ensures.items ∙ ap (λ (l : List Finding). c.workers.findings.items ++ l) c.as_slice.ensures.value) c.in_ok-append.ensures.items;
-      steps =
-          steps-more g.N.World.design g.N.World.plan c.workers.workers.items c.pop.new.self.items c.args.workers.items c.in-Some.worker c.workers.shards.items
-          c.in_ok-more.more.shards.items c.append.new.self.items c.in-Some.ensures.items c.in_ok-append.ensures.items c.in_ok-more.ensures.steps c.workers.invariant.steps;
+      steps = λ tally.
+          steps-more g.N.World.design g.N.World.plan tally c.workers.workers.items c.pop.new.self.items c.args.workers.items c.in-Some.worker c.workers.shards.items
+          c.in_ok-more.more.shards.items c.append.new.self.items c.in-Some.ensures.items c.in_ok-append.ensures.items (c.in_ok-more.ensures.steps tally) (c.workers.invariant.steps tally);
     }
 
 pub returns-clause-gathered : goal.returns-clause-gathered
@@ -46,6 +46,6 @@ returns-clause-gathered g c =
     c.workers.shards.items) none.0 c.workers.invariant.joined)
 
 pub returns-clause-steps : goal.returns-clause-steps
-returns-clause-steps g c =
+returns-clause-steps g c tally =
     let none = none-popped _ c.workers.workers c.pop.new.self c.in_default.is c.pop.ensures.cases in
-    steps-all g.N.World.design g.N.World.plan c.workers.workers.items c.args.workers.items c.workers.shards.items none.0 c.workers.invariant.steps
+    steps-all g.N.World.design g.N.World.plan tally c.workers.workers.items c.args.workers.items c.workers.shards.items none.0 (c.workers.invariant.steps tally)

@@ -31,9 +31,9 @@ returns-clause-gathered g c =
     (All-same IsFoundShard _ _ (sym c.deref.ensures.value) c.in_ok-findings.ensures.complete)
 
 pub returns-clause-steps : goal.returns-clause-steps
-returns-clause-steps g c =
+returns-clause-steps g c tally =
     let some = c.good_run_goes_on.ensures.some g.N.World.design g.N.World.plan c.rules_hold.ensures.0 in
-    worker-within g.N.World.design g.N.World.plan c.args.worker
+    worker-within g.N.World.design g.N.World.plan tally c.args.worker
     (dry-behind (representatives_of c.args.place.now.shards.now) c.args.place.now.board.now _ c.args.worker some c.requires.at)
     (subst (λ l. claimed_steps tally l ≤ claimed_most tally l) c.deref.ensures.value
-    (c.in_ok-findings.ensures.steps c.rules_hold.ensures.0))
+    (c.in_ok-findings.ensures.steps tally))

@@ -2,7 +2,7 @@
 use Rattle.std.proofs.Common.{◌≡◌, ◌+◌, ◌*◌, ◌<◌, ◌++◌, ◌∷◌, [], length, sym, subst, arith, rules}
 use Rattle.fault_shards.specs.Shards.{representatives_of}
 use Rattle.std.specs.Prelude.{sum}
-use Rattle.shard_crew.specs.Crews.{AreWorkersAt, RoseTwice, crew_steps}
+use Rattle.shard_crew.specs.Crews.{AreWorkersAt, RoseOwn, crew_steps}
 use contract.Lifetimes.{Lfts}
 use denote.Exit.{no}
 use denote.Param.{param}
@@ -69,17 +69,17 @@ join_mut-a-requires-after_bounds g t c κs within =
 pub returns-in_default-clause-ticks : goal.returns-in_default-clause-ticks
 returns-in_default-clause-ticks g t c =
     let none = none-popped _ c.args.workers.now c.pop.new.self c.in_default.is c.pop.ensures.cases in
-    record { rises = nothing-rises g.N.World.design g.N.World.plan c.args.workers.now.items c.pop.new.self.items (sum c.args.steps.now) none.0 }
+    record { rises = λ tally. nothing-rises g.N.World.design g.N.World.plan tally c.args.workers.now.items c.pop.new.self.items (sum c.args.steps.now) none.0 }
 
 pub returns-then-count-eq0-clause-ticks : goal.returns-then-count-eq0-clause-ticks
 returns-then-count-eq0-clause-ticks g t c =
     let others = c.split_at_mut-others.result.0.now in
-    let nothing : RisesWithin (crew_steps tally c.pop.new.self.items) (crew_steps tally c.pop.new.self.items) (sum others) (sum others) =
-    omega arith in record {
-      rises =
-          crew-more g.N.World.design g.N.World.plan c.args.workers.now.items c.pop.new.self.items c.pop.new.self.items c.push.new.self.items c.in-Some.worker c.in_ok-worker.worker
+    record {
+      rises = λ tally.
+          (let nothing : RisesWithin (crew_steps tally c.pop.new.self.items) (crew_steps tally c.pop.new.self.items) (sum others) (sum others) = omega arith in
+          crew-more g.N.World.design g.N.World.plan tally c.args.workers.now.items c.pop.new.self.items c.pop.new.self.items c.push.new.self.items c.in-Some.worker c.in_ok-worker.worker
           c.args.steps.now others c.split_at_mut-others.result.1.now others c.work_alone.new.mine c.in-Some.ensures.items c.in_ok-push.ensures.items
-          c.split_at_mut-others.ensures.value c.in_ok-worker.ensures.ticks.rises nothing;
+          c.split_at_mut-others.ensures.value (c.in_ok-worker.ensures.ticks.rises tally) nothing);
     }
 
 pub returns-clause-through : goal.returns-clause-through
@@ -100,12 +100,12 @@ returns-clause-through g t c =
 
 pub returns-clause-ticks : goal.returns-clause-ticks
 returns-clause-ticks g t c =
-    let mine : RoseTwice (worker_steps tally c.in-Some.worker) (worker_steps tally c.in_ok-worker-2.worker)
+    let mine : RoseOwn g.N.World.design g.N.World.plan (λ tally. worker_steps tally c.in-Some.worker) (λ tally. worker_steps tally c.in_ok-worker-2.worker)
     c.split_at_mut-others.result.1.now c.mine-2-1.given.0 = search rules in
-    let others : RoseTwice (crew_steps tally c.pop.new.self.items) (crew_steps tally c.workers-1.given.0.items)
+    let others : RoseOwn g.N.World.design g.N.World.plan (λ tally. crew_steps tally c.pop.new.self.items) (λ tally. crew_steps tally c.workers-1.given.0.items)
     c.split_at_mut-others.result.0.now c.others-1.given.0 = search rules in record {
-      rises =
-          crew-more g.N.World.design g.N.World.plan c.args.workers.now.items c.pop.new.self.items c.workers-1.given.0.items c.push-2.new.self.items c.in-Some.worker c.in_ok-worker-2.worker
+      rises = λ tally.
+          crew-more g.N.World.design g.N.World.plan tally c.args.workers.now.items c.pop.new.self.items c.workers-1.given.0.items c.push-2.new.self.items c.in-Some.worker c.in_ok-worker-2.worker
           c.args.steps.now c.split_at_mut-others.result.0.now c.split_at_mut-others.result.1.now c.others-1.given.0 c.mine-2-1.given.0 c.in-Some.ensures.items c.in_ok-push-2.ensures.items
-          c.split_at_mut-others.ensures.value mine.rises others.rises;
+          c.split_at_mut-others.ensures.value (mine.rises tally) (others.rises tally);
     }

@@ -17,7 +17,7 @@ work-requires-clause-at g c κs within =
 
 pub returns-clause-ticks : goal.returns-clause-ticks
 returns-clause-ticks g c = record {
-  rises =
-      alone-steps g.N.World.design g.N.World.plan c.args.worker.now c.in-Some.worker c.in_ok-worker.worker c.args.mine.now c.index-mine-0.result c.work.new.steps
-      (sym c.take.ensures.value ∙ c.in-Some.is) c.requires.one c.in_ok-worker.ensures.ticks;
+  rises = λ tally.
+      alone-steps g.N.World.design g.N.World.plan tally c.args.worker.now c.in-Some.worker c.in_ok-worker.worker c.args.mine.now c.index-mine-0.result c.work.new.steps
+      (sym c.take.ensures.value ∙ c.in-Some.is) c.requires.one (c.in_ok-worker.ensures.ticks tally);
 }

@@ -6,7 +6,7 @@ use Rattle.std.specs.Prelude.{sum}
 use Rattle.shard_rounds.specs.Rounds.{IsBeforeRound, GoesOn, GoodTicks, RoundTicks}
 use Rattle.shard_rounds.specs.declared.step.Later.{Later}
 use Rattle.shard_rounds.proofs.Going.{window-within}
-use Rattle.shard_rounds.proofs.Ticks.{rises-more, twice-more}
+use Rattle.shard_rounds.proofs.Ticks.{rises-more}
 use Rattle.shard_rounds.proofs.rounds.go_rounds.Goals as goal
 
 pub rounds-preserved : goal.rounds-preserved
@@ -17,8 +17,8 @@ rounds-preserved g c =
     let same : length c.rounds.steps ≡ length c.args.steps.now = c.rounds.auto.steps in
     record {
       before = subst (λ n. IsBeforeRound g.N.World.design g.N.World.plan (representatives_of c.args.place.now.shards.now) c.args.place.now.board.now n c.next_round.new.ahead.run c.in-Round.next) same went.0;
-      ticks = twice-more _ _ _ (sum c.args.steps.now) (sum c.rounds.steps) (sum c.next_round.new.steps) c.rounds.invariant.ticks
-          (subst (λ (later : Later _). RoundTicks g.N.World.design g.N.World.plan c.rounds.rounds.workers.items (sum c.rounds.steps) (sum c.next_round.new.steps) later) c.in-Round.is c.in_ok-next.ensures.ticks);
+      ticks = λ tally. rises-more _ _ _ (sum c.args.steps.now) (sum c.rounds.steps) (sum c.next_round.new.steps) (c.rounds.invariant.ticks tally)
+          (subst (λ (later : Later _). RoundTicks g.N.World.design g.N.World.plan c.rounds.rounds.workers.items (sum c.rounds.steps) (sum c.next_round.new.steps) later) c.in-Round.is c.in_ok-next.ensures.ticks tally);
       good = rises-more _ _ _ (sum c.args.own.now) (sum c.rounds.own) (sum c.next_round.new.own) c.rounds.invariant.good
           (subst (λ (later : Later _). GoodTicks g.N.World.design g.N.World.plan c.rounds.ahead.run.ran c.next_round.new.ahead.run.ran (sum c.rounds.own) (sum c.next_round.new.own) later) c.in-Round.is c.in_ok-next.ensures.good);
     }
@@ -36,9 +36,9 @@ rounds-smaller g c =
     omega (arith, some, within, next)
 
 pub returns-in-Done-clause-ticks : goal.returns-in-Done-clause-ticks
-returns-in-Done-clause-ticks g c =
-    twice-more _ _ _ (sum c.args.steps.now) (sum c.rounds.steps) (sum c.next_round.new.steps) c.rounds.invariant.ticks
-    (subst (λ (later : Later _). RoundTicks g.N.World.design g.N.World.plan c.rounds.rounds.workers.items (sum c.rounds.steps) (sum c.next_round.new.steps) later) c.in-Done.is c.in_ok-next.ensures.ticks)
+returns-in-Done-clause-ticks g c tally =
+    rises-more _ _ _ (sum c.args.steps.now) (sum c.rounds.steps) (sum c.next_round.new.steps) (c.rounds.invariant.ticks tally)
+    (subst (λ (later : Later _). RoundTicks g.N.World.design g.N.World.plan c.rounds.rounds.workers.items (sum c.rounds.steps) (sum c.next_round.new.steps) later) c.in-Done.is c.in_ok-next.ensures.ticks tally)
 
 pub returns-in-Done-clause-good : goal.returns-in-Done-clause-good
 returns-in-Done-clause-good g c =

@@ -19,9 +19,10 @@ go_rounds-requires-clause-before g c κs within =
     }
 
 pub returns-in_ok-gathered-in-All-clause-ticks : goal.returns-in_ok-gathered-in-All-clause-ticks
-returns-in_ok-gathered-in-All-clause-ticks g c =
+returns-in_ok-gathered-in-All-clause-ticks g c tally =
     let first = subst (λ (f : First _). FirstTicks g.N.World.design g.N.World.plan c.first_window.new.ahead.run.ran (sum c.args.own.now) (sum c.first_window.new.own) f) c.in-Window.is c.in_ok-window.ensures.ticks in
     let crew =
     subst (λ (t : Through _). AllTicks g.N.World.design g.N.World.plan c.in_ok-seat.workers.items (sum c.args.steps.now) (sum c.go_rounds.new.steps) t) c.in-All.is
-    c.in_ok-ended.ensures.ticks in
-    omega (arith, first, crew, c.in_ok-ended.ensures.good, c.in_ok-gathered-in-All.ensures.steps)
+    c.in_ok-ended.ensures.ticks tally in
+    let all = c.in_ok-gathered-in-All.ensures.steps tally in
+    omega (arith, first, crew, c.in_ok-ended.ensures.good, all)

@@ -40,4 +40,4 @@ returns-clause-work g c =
     c.requires.place.claims)
 
 pub returns-clause-steps : goal.returns-clause-steps
-returns-clause-steps g c = steps-ordered g.N.World.design g.N.World.plan c.args.gathered.shards.items _ c.in_ok-shards.ensures
+returns-clause-steps g c tally = steps-ordered g.N.World.design g.N.World.plan tally c.args.gathered.shards.items _ c.in_ok-shards.ensures

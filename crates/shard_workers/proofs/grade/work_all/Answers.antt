@@ -1,5 +1,5 @@
 -- The design keeps the rules.
-use Rattle.std.proofs.Common.{◌≡◌, ◌+◌, ◌*◌, ◌≤◌, sym, subst, arith}
+use Rattle.std.proofs.Common.{◌≡◌, ◌+◌, ◌≤◌, sym, subst, arith}
 use Rattle.std.specs.Prelude.{sum}
 use Rattle.v_design.specs.PlainDesigns.{design_of}
 use Rattle.v_design.specs.RulesHold.{rules_hold}
@@ -9,6 +9,7 @@ use Rattle.shard_rounds.specs.shard_crew.Crews.{claimed_most}
 use Rattle.shard_rounds.specs.Outcomes.{OutcomeTicks}
 use Rattle.shard_rounds.specs.declared.outcome.Outcome.{Outcome}
 use Rattle.shard_workers.specs.Ordered.{work_steps}
+use Rattle.shard_workers.proofs.Gradings.{rose-own}
 use Rattle.shard_workers.proofs.grade.work_all.Goals as goal
 
 pub close_work-requires-clause-rules : goal.close_work-requires-clause-rules
@@ -16,10 +17,11 @@ close_work-requires-clause-rules g c κs within = subst KeepsRules (sym c.design
 
 pub returns-clause-ticks : goal.returns-clause-ticks
 returns-clause-ticks g c =
-    let most : sum c.grade_rounds.new.own + sum c.grade_rounds.new.steps ≤
-    sum c.args.own.now + sum c.args.steps.now + (good_steps g.N.World.design g.N.World.plan + 2 * claimed_most tally c.in-Graded.gathered.shards.items) =
+    rose-own c.own_steps_rise.ensures g.N.World.design g.N.World.plan (sum c.args.own.now + sum c.args.steps.now) (sum c.grade_rounds.new.own + sum c.grade_rounds.new.steps)
+    c.in_ok-work-in-Graded.work c.in_ok-work-in-Graded.ensures.work
+    (λ tally. let most : sum c.grade_rounds.new.own + sum c.grade_rounds.new.steps ≤
+    sum c.args.own.now + sum c.args.steps.now + (good_steps g.N.World.design g.N.World.plan + claimed_most tally c.in-Graded.gathered.shards.items) =
     subst (λ (o : Outcome _). OutcomeTicks g.N.World.design g.N.World.plan (sum c.args.own.now + sum c.args.steps.now) (sum c.grade_rounds.new.own + sum c.grade_rounds.new.steps) o) c.in-Graded.is
-    c.in_ok-outcome.ensures.ticks in
-    let same : claimed_most tally c.in-Graded.gathered.shards.items ≡ work_steps tally c.in_ok-work-in-Graded.work.shards.items =
-    c.in_ok-work-in-Graded.ensures.steps in
-    omega (arith, most, same)
+    c.in_ok-outcome.ensures.ticks tally in
+    let same : claimed_most tally c.in-Graded.gathered.shards.items ≡ work_steps tally c.in_ok-work-in-Graded.work.shards.items = c.in_ok-work-in-Graded.ensures.steps tally in
+    omega (arith, most, same))

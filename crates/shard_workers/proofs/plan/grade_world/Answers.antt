@@ -8,4 +8,4 @@ returns-clause-grades g c = c.without_board-grades.ensures.grades (design_of c.a
 
 pub returns-clause-ticks : goal.returns-clause-ticks
 returns-clause-ticks g c =
-    c.without_board-grades.ensures.ticks (design_of c.args.design.now) (plan_of c.args.plan.now) (sum c.args.steps.now) (sum c.grade_all.new.steps) c.in_ok-graded.ensures.graded c.in_ok-graded.ensures.ticks
+    c.without_board-grades.ensures.ticks (design_of c.args.design.now) (plan_of c.args.plan.now) (sum c.args.steps.now) (sum c.grade_all.new.steps) c.in_ok-graded.ensures.ticks

@@ -19,7 +19,7 @@ returns-clause-whole g c =
     (all-whole c.good_run_goes_on.ensures c.strobed_gradings_go_on.ensures c.full_grades_reach.ensures g.N.World.design g.N.World.plan s.gone s.reached s.faults.items s.kept.items c.self.invariant)
 
 pub returns-clause-steps : goal.returns-clause-steps
-returns-clause-steps g c rules =
+returns-clause-steps g c tally =
     let s = c.self.inside in
     subst (λ (shard : KeepingShard). kept_steps_of tally shard ≤ sum_by (full_steps_at tally) (numbers_of shard.kept)) c.self.view_is
-    (all-within c.good_run_goes_on.ensures g.N.World.design g.N.World.plan s.gone s.reached s.faults.items s.kept.items c.self.invariant c.gradings_take_steps.ensures)
+    (all-within g.N.World.design g.N.World.plan tally s.gone s.reached s.faults.items s.kept.items c.self.invariant c.own_steps_rise.ensures)

@@ -23,7 +23,7 @@ returns c =
     record {
       machine_is = refl;
       notes_are = refl;
-      runs = λ begins next.
+      stands = λ begins next.
           slot-begun c.slot_goes_on.ensures.begin c.runs_go_on.ensures.begin c.writes_stay.ensures.stay begins m _ _ c.in_ok-turn.turn c.begin_slot.new.self c.requires.standing next
           (subst (λ (s : State). s.time ≤ 2 ^ 63) (some-state f.0 begins (sym f.1 ∙ next)) f.2) c.in_ok-turn.ensures.turn
           (c.in_ok-turn.ensures.begins (machine_kept m) (state_kept m) begins (begins-table m c.requires.standing) next) c.in_ok-turn.ensures.kept (record { values = refl; nodes = refl }) refl refl

@@ -20,8 +20,8 @@ begin_phase-requires-clause-number c = next-number c.phases_are_few.ensures.few 
 pub returns : goal.returns
 returns c = record {
   notes_are = refl;
-  leads = λ machine first begins steps ticks moves runs few.
-      turn-moved c.slot_goes_on.ensures.turn c.runs_go_on.ensures.phases machine first begins steps ticks moves c.args.self.now _ c.args.log.now _ c.args.turn c.end_phase.new.self runs few c.requires.idle
+  leads = λ machine first begins steps guide before now moves runs few.
+      turn-moved c.runs_go_beside.ensures c.slot_goes_on.ensures.turn c.runs_go_on.ensures.phases machine first begins steps guide before now moves c.args.self.now _ c.args.log.now _ c.args.turn c.end_phase.new.self runs few c.requires.idle
       c.requires.turn c.in_ok-end_phase.ensures
       (λ state of. c.in_ok-turn.ensures.turned machine state of) c.in_ok-turn.ensures.kept (record { values = refl; nodes = refl }) refl refl c.in_ok-begin_phase.ensures refl refl;
 }
