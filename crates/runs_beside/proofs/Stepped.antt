@@ -77,12 +77,6 @@ known-moves one other first state process table of_one of_other values line act 
           ∙ ap (λ v. next_activity v (step_of other state process).action (step_of other state process).next) (sym values);
     }
 
--- no tick more
-pub none-more : {machine : Machine} {others : List Phase} {at : Moment} {kept : RunsBeside} (ticked : ℕ) → GoesBeside machine others at ticked kept → GoesBeside machine others at (ticked + 0) kept
-none-more {machine = machine} {others = others} {at = at} {kept = kept} ticked goes =
-    let e : ticked ≡ ticked + 0 = omega arith in
-    subst (λ (n : ℕ). GoesBeside machine others at n kept) e goes
-
 -- Whether the run goes on
 
 last-cons : (run first : ProcessRun) (runs : List ProcessRun) → last_goes_on (run ∷ first ∷ runs) ≡ last_goes_on (first ∷ runs)
