@@ -67,21 +67,21 @@ module _ (laws : KnownStepsGoOn) (machine : Machine) (state : State) (p : ℕ) (
     where
       -- it begins as the process stands
       pub starts-as : IsTrue result → FollowsSoFar (Some good) run
-      starts-as yes = record {
+      starts-as holds = record {
         one = good;
         is = refl;
         begins =
-            sym (laws.first machine state p good found one tells first tells.code tells.is_code).0 ∙ sym (activity yes tells.code tells.is_code) ∙ begun machine state p run in_run none;
+            sym (laws.first machine state p good found one tells first tells.code tells.is_code).0 ∙ sym (activity holds tells.code tells.is_code) ∙ begun machine state p run in_run none;
         later = good.steps;
         steps = ap (λ (s : List StepSeen). s ++ good.steps) (sym none);
       }
 
       -- or otherwise
       pub starts-other : result ≡ false → AllCount (Some good) (run_behind machine state p run)
-      starts-other no = laws.other good (run_behind machine state p run) (λ same.
+      starts-other fails = laws.other good (run_behind machine state p run) (λ same.
           let law = laws.first machine state p good found one tells first tells.code tells.is_code in
-          let yes : IsTrue result = (equal tells.code tells.is_code (places-differ machine.design p tells.code rules tells.is_code) law.1).1 (begun machine state p run in_run none ∙ sym same ∙ sym law.0) in
-          absurd (subst IsTrue no yes))
+          let holds : IsTrue result = (equal tells.code tells.is_code (places-differ machine.design p tells.code rules tells.is_code) law.1).1 (begun machine state p run in_run none ∙ sym same ∙ sym law.0) in
+          (let clash : true ≡ false = sym holds ∙ fails in cc))
 
 -- the first of some steps
 pub first-at : (steps : List StepTaken) (one : StepTaken) → (steps ≡ [] → ⊥) → one ≡ get_or steps 0 one → slice_get steps 0 ≡ Some one

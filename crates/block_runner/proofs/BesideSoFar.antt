@@ -10,7 +10,7 @@ use Rattle.vf_base.specs.declared.ids.ProcId.{ProcId}
 use Rattle.v_design.specs.Designs.{Machine}
 use Rattle.v_design.specs.OwnSteps.{ProcessRun, runs_of, seen_step, steps_in}
 use Rattle.v_design.specs.Runs.{happened}
-use Rattle.v_design.specs.States.{State, Event, Step, after, is_process_event, is_ready, process_at, step_of}
+use Rattle.v_design.specs.States.{State, Event, Step, after, is_process_event, is_ready, process_at, source_at, step_of}
 use Rattle.process_code.specs.RunEnds.{act_of}
 use Rattle.machine_events.specs.Steps.{raised_by, raised-sum}
 use Rattle.copy_laws.specs.OwnRuns.{grow, last_goes_on}
@@ -48,7 +48,7 @@ pub tells-later : (machine : Machine) (begins state : State) (runs : ℕ → Lis
     TellsBeside machine begins runs numbers kept → TellsBeside machine state runs numbers kept
 tells-later machine begins state runs numbers kept time tells = record {
   tells = subst (λ (t : ℕ). TellsRuns machine.design t runs kept.goods) time tells.tells;
-  each = λ process there. subst (λ (t : ℕ). AllHold (IsRunFrom _ t) (runs process)) time (tells.each process there);
+  each = λ process there. subst (λ (t : ℕ). AllHold (IsRunFrom (source_at machine process) t) (runs process)) time (tells.each process there);
   are = tells.are;
   count = tells.count;
 }
@@ -183,10 +183,10 @@ module _ (lead : PresentRunsLead) (machine : Machine) (begins : State) (kept : G
             own =
                 subst (λ (row : ProcessBeside). TellsRow (runs (process_number process)) (numbers (process_number process))
                 (runs_of (steps_in machine (process_number process) begins (events ++ Step (process_number process) ∷ []))) row.ended row.going)
-                (sym (ap (λ (rs : List ProcessBeside). row_at rs (process_number process)) steps.rows ∙ row-own rows process _ low))
-                (subst (λ (rs : List ProcessRun). TellsRow (runs (process_number process)) (numbers (process_number process)) rs _ _) (sym (own-more machine begins events (process_number process)))
+                (sym (ap (λ (rs : List ProcessBeside). row_at rs (process_number process)) steps.rows ∙ row-own rows process (row_behind (row_at rows (process_number process)) steps.follows (is_ready (process_at (after machine (happened machine begins events) (Step (process_number process))) (process_number process)).activity)) low))
+                (subst (λ (rs : List ProcessRun). TellsRow (runs (process_number process)) (numbers (process_number process)) rs (row_behind (row_at rows (process_number process)) steps.follows (is_ready (process_at (after machine (happened machine begins events) (Step (process_number process))) (process_number process)).activity)).ended (row_behind (row_at rows (process_number process)) steps.follows (is_ready (process_at (after machine (happened machine begins events) (Step (process_number process))) (process_number process)).activity)).going) (sym (own-more machine begins events (process_number process)))
                 (tells-behind machine (happened machine begins events) (process_number process) (runs (process_number process)) (numbers (process_number process))
-                (runs_of (steps_in machine (process_number process) begins events)) (row_at rows (process_number process)) steps.follows _
+                (runs_of (steps_in machine (process_number process) begins events)) (row_at rows (process_number process)) steps.follows (is_ready (process_at (after machine (happened machine begins events) (Step (process_number process))) (process_number process)).activity)
                 (at-row (process_number process) runs numbers tells) (took-beside runs numbers tells) (ready-behind machine (happened machine begins events) (process_number process))))
 
             go : (b : Bool) → nat_eq q (process_number process) ≡ b →
@@ -197,7 +197,7 @@ module _ (lead : PresentRunsLead) (machine : Machine) (begins : State) (kept : G
             go false e =
                 let apart : q ≢ process_number process = eqb-false q (process_number process) e in
                 subst (λ (row : ProcessBeside). TellsRow (runs q) (numbers q) (runs_of (steps_in machine q begins (events ++ Step (process_number process) ∷ []))) row.ended row.going)
-                (sym (ap (λ (rs : List ProcessBeside). row_at rs q) steps.rows ∙ row-other rows process _ low q apart))
+                (sym (ap (λ (rs : List ProcessBeside). row_at rs q) steps.rows ∙ row-other rows process (row_behind (row_at rows (process_number process)) steps.follows (is_ready (process_at (after machine (happened machine begins events) (Step (process_number process))) (process_number process)).activity)) low q apart))
                 (subst (λ steps_more. TellsRow (runs q) (numbers q) (runs_of steps_more) (row_at rows q).ended (row_at rows q).going)
                 (sym (other-more machine begins events q (process_number process) apart)) ((so_far.beside runs numbers tells).each q))
 
@@ -215,13 +215,13 @@ module _ (lead : PresentRunsLead) (machine : Machine) (begins : State) (kept : G
             go true e =
                 let same : q ≡ process_number process = eqb-true q (process_number process) e in
                 ap (λ (n : ℕ). is_ready (process_at (after machine (happened machine begins events) (Step (process_number process))) n).activity) same
-                ∙ going-behind (row_at rows (process_number process)) steps.follows _
-                ∙ sym (ap (λ (row : ProcessBeside). is_some row.going) (ap (λ (rs : List ProcessBeside). row_at rs (process_number process)) steps.rows ∙ row-own rows process _ low))
+                ∙ going-behind (row_at rows (process_number process)) steps.follows (is_ready (process_at (after machine (happened machine begins events) (Step (process_number process))) (process_number process)).activity)
+                ∙ sym (ap (λ (row : ProcessBeside). is_some row.going) (ap (λ (rs : List ProcessBeside). row_at rs (process_number process)) steps.rows ∙ row-own rows process (row_behind (row_at rows (process_number process)) steps.follows (is_ready (process_at (after machine (happened machine begins events) (Step (process_number process))) (process_number process)).activity)) low))
                 ∙ sym (ap (λ (n : ℕ). is_some (row_at rows1 n).going) same)
             go false e =
                 let apart : q ≢ process_number process = eqb-false q (process_number process) e in
                 so_far.running q
-                ∙ sym (ap (λ (row : ProcessBeside). is_some row.going) (ap (λ (rs : List ProcessBeside). row_at rs q) steps.rows ∙ row-other rows process _ low q apart))
+                ∙ sym (ap (λ (row : ProcessBeside). is_some row.going) (ap (λ (rs : List ProcessBeside). row_at rs q) steps.rows ∙ row-other rows process (row_behind (row_at rows (process_number process)) steps.follows (is_ready (process_at (after machine (happened machine begins events) (Step (process_number process))) (process_number process)).activity)) low q apart))
 
         -- behind the step and the work on nodes
         pub beside-more : (nodes : List Event) → AllHold (λ (event : Event). is_process_event event ≡ false) nodes →
@@ -248,8 +248,9 @@ module _ (lead : PresentRunsLead) (machine : Machine) (begins : State) (kept : G
                   ∙ nodes-quiet machine (happened machine begins (events ++ Step (process_number process) ∷ [])) nodes of q (in_run machine begins (events ++ Step (process_number process) ∷ []) q)
                   ∙ in-run-more machine begins events (Step (process_number process)) q ∙ running-behind q;
               listed = subst (λ (rs : List ProcessBeside). AreListed rs ended1 (taken + 1)) (sym steps.rows)
-                  (subst (λ (l : List ProcId). AreListed _ l (taken + 1)) (sym steps.ended) (listed-more rows ended taken process steps.follows _ low so_far.listed));
-              there = subst (λ (n : ℕ). length machine.design.processes ≤ n) (sym (ap length steps.rows ∙ length-set rows (process_number process) _)) so_far.there;
+                  (subst (λ (l : List ProcId). AreListed (set rows (process_number process) (row_behind (row_at rows (process_number process)) steps.follows (is_ready (process_at (after machine (happened machine begins events) (Step (process_number process))) (process_number process)).activity))) l (taken + 1)) (sym steps.ended)
+                  (listed-more rows ended taken process steps.follows (is_ready (process_at (after machine (happened machine begins events) (Step (process_number process))) (process_number process)).activity) low so_far.listed));
+              there = subst (λ (n : ℕ). length machine.design.processes ≤ n) (sym (ap length steps.rows ∙ length-set rows (process_number process) (row_behind (row_at rows (process_number process)) steps.follows (is_ready (process_at (after machine (happened machine begins events) (Step (process_number process))) (process_number process)).activity)))) so_far.there;
             }
 
     -- what was tried ticked

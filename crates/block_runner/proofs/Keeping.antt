@@ -32,8 +32,12 @@ module _ (goods : ℕ → List ProcessRun) (numbers : ℕ → ℕ) (machine : Ma
   keeps-append before (event ∷ events) later (one ∷ tried) more keeps next = elim keeps [
     | inl rest ↦ inl (keeps-append (before ++ event ∷ []) events later (one ∷ tried) more rest
         (subst (λ (es : List Event). Keeps goods numbers machine phase begins es later more) (sym (append_assoc before (event ∷ []) events)) next))
-    | inr first ↦ inr (first.0, first.1, keeps-append (before ++ event ∷ []) events later tried more first.2
-        (subst (λ (es : List Event). Keeps goods numbers machine phase begins es later more) (sym (append_assoc before (event ∷ []) events)) next))
+    | inr first ↦ inr (
+      first.0,
+      first.1,
+      keeps-append (before ++ event ∷ []) events later tried more first.2
+          (subst (λ (es : List Event). Keeps goods numbers machine phase begins es later more) (sym (append_assoc before (event ∷ []) events)) next),
+    )
   ]
 
   -- one step that is kept

@@ -1,6 +1,6 @@
 -- The next step of a process, as a run of the good machine tells it.
 use Rattle.std.proofs.Common.{◌≡◌, ◌∙◌, ℕ, zero, suc, ◌+◌, ◌<◌, Bool, true, false, List, [], ◌∷◌, ◌++◌, length, refl, sym, ap, subst, arith}
-use Rattle.std.specs.Prelude.{Option, Some, None, IfSome, MatchOption, slice_get}
+use Rattle.std.specs.Prelude.{Option, Some, None, IfSome, MatchOption, is_some, slice_get}
 use Rattle.std.specs.Option.{option_map}
 use Rattle.vf_base.specs.Lists.{AllHold}
 use Rattle.v_design.specs.Designs.{Machine}
@@ -23,7 +23,7 @@ use Rattle.window_runs.specs.OfPhase.{TellsGoodRun}
 use Rattle.block_runner.specs.declared.goods.GoodPhase.{GoodPhase}
 use Rattle.block_runner.specs.declared.rows.RunBeside.{RunBeside}
 use Rattle.block_runner.specs.Beside.{TellsBeside}
-use Rattle.block_runner.specs.Next.{FollowsAt, GoesSo, IsAtRun, IsBesideRun, TellsNext}
+use Rattle.block_runner.specs.Next.{FollowsAt, GoesSo, IsAtRun, IsBesideRun, IsKnownHere, TellsNext, TookBeside}
 
 -- In a run that was found
 
@@ -47,6 +47,18 @@ module _ (laws : KnownStepsGoOn) (machine : Machine) (state : State) (p : ℕ) (
         let law = laws.known machine state p run good found known.line known.act known.next.now is.tells is.in_run follows
         (subst (λ (n : ℕ). IsKnownAt state.values found n known.line known.act known.next.now) is.place_is at) in
         record { known = law.0; stands = law.1; follows = law.2 }
+
+-- a known step is one that the process takes next
+pub known-here : (machine : Machine) (state : State) (p : ℕ) (good : Option ProcessRun) (run : ProcessRun) (known : Option KnownStep) → TellsNext machine state p good run known →
+    IfSome known (IsKnownHere machine state p)
+known-here machine state p good run None next = tt
+known-here machine state p good run (Some known) next = (next.known, next.stands)
+
+-- so the step is taken
+pub took-told : (machine : Machine) (state : State) (p : ℕ) (good : Option ProcessRun) (run : ProcessRun) (known : Option KnownStep) → TellsNext machine state p good run known →
+    (follows : Bool) → follows ≡ is_some known → TookBeside machine state p good run follows
+took-told machine state p good run None next follows e = subst (TookBeside machine state p good run) (sym e) next
+took-told machine state p good run (Some known) next follows e = subst (TookBeside machine state p good run) (sym e) next.follows
 
 -- Among the runs of a phase
 

@@ -456,7 +456,7 @@ module _ (machine : Machine) (begins : State) (now : Runner) (told : BlockTold) 
           (step-going machine begins so_far.first so_far.events process now stepped told told_stepped so_far.least so_far.going so_far.next chosen steps)
           (some so_far.events) settles.works
 
-      not-none : (all_events ≡ []) → ⊥
+      pub not-none : (all_events ≡ []) → ⊥
       not-none = some-more (so_far.events ++ Step process ∷ []) settles.events (some so_far.events)
 
       abbrev goes : (most : ℕ) (end : BlockEnd) → EndsSo machine begins most all_events end → GoesOn machine begins most end settled told_settled
@@ -500,20 +500,20 @@ module _ (machine : Machine) (begins : State) (now : Runner) (told : BlockTold) 
 module _ (old stepped settled : Runner) (process : ℕ) (told_stepped told_settled : BlockTold) (steps : LaneStepsOn process old stepped told_stepped) (quiet : Bool)
     (settles : Settles quiet stepped settled told_stepped told_settled)
   where
-    abbrev machine : Machine
+    abbrev pub machine : Machine
     machine = machine_of old
 
-    abbrev begins : State
+    abbrev pub begins : State
     begins = state_of old
 
-    abbrev lane_events : List Event
+    abbrev pub lane_events : List Event
     lane_events = LaneStep process ∷ settles.events
 
-    at : (AreFirst machine (after machine begins (LaneStep process)) settles.events) × (machine_of settled ≡ machine)
+    pub at : (AreFirst machine (after machine begins (LaneStep process)) settles.events) × (machine_of settled ≡ machine)
         × (state_of settled ≡ happened machine (after machine begins (LaneStep process)) settles.events)
     at = takes-at machine (after machine begins (LaneStep process)) settles.events stepped settled steps.takes.machine_is steps.takes.state_is settles.works.takes
 
-    told : TellsBlock machine begins lane_events told_settled
+    pub told : TellsBlock machine begins lane_events told_settled
     told =
         subst (λ m. TellsBlock m begins (LaneStep process ∷ settles.events) told_settled) steps.takes.machine_is
         (settles.works.tells begins (LaneStep process ∷ []) ((λ i. after (steps.takes.machine_is i) begins (LaneStep process)) ∙ sym steps.takes.state_is)
@@ -538,7 +538,7 @@ module _ (old stepped settled : Runner) (process : ℕ) (told_stepped told_settl
     lane-given_up most fails = goes_so most GivenUp (inr (omega (arith, settles.many fails)))
 
     -- no moment before the work on nodes ends is one between runs
-    sooner-lane : (count : ℕ) → 0 < count → count < length (LaneStep process ∷ settles.events) → IsBetweenRuns machine begins (take count (LaneStep process ∷ settles.events)) → ⊥
+    pub sooner-lane : (count : ℕ) → 0 < count → count < length (LaneStep process ∷ settles.events) → IsBetweenRuns machine begins (take count (LaneStep process ∷ settles.events)) → ⊥
     sooner-lane zero some few between = absurd (omega (arith, some))
     sooner-lane (suc count) some few between =
         settles.works.busy count (omega (arith, few))

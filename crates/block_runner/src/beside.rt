@@ -2,13 +2,14 @@
 
 ghost use Rattle.std.specs.Prelude.{◌≡◌, ◌≤◌, ◌<◌, ◌^◌, ℕ, List, [], Some, None, is_some, length, map, set, slice_get, IfOk, IfSome, OnOk};
 ghost use Rattle.vf_base.specs.Base.{process_number};
+ghost use Rattle.v_design.specs.OwnSteps.{ProcessRun};
 ghost use Rattle.v_design.specs.WellFormed.{KeepsRules};
 ghost use Rattle.race_laws.specs.Writes.{WritesAreOf};
 ghost use Rattle.machine_laws.specs.SlotLoop.{NoNodeWorks, first_lane, first_ready};
 ghost use Rattle.block_events.specs.Going.{StepsOn};
 ghost use Rattle.block_events.specs.Runners.{IsWhole, machine_of, state_of};
-ghost use Rattle.block_runner.specs.Beside.{fresh, row_at, taken_of};
-ghost use Rattle.block_runner.specs.Next.{IsKnownHere, MayStepBeside, StepsBeside, TriesOne, TriesSo, ended_behind, row_behind};
+ghost use Rattle.block_runner.specs.Beside.{TellsBeside, fresh, row_at, taken_of};
+ghost use Rattle.block_runner.specs.Next.{IsAtRun, MayBeAtRun, MayStepBeside, TookBeside, StepsBeside, TriesOne, TriesSo, ended_behind, row_behind};
 
 use crate::goods::GoodPhase;
 use crate::next::next_known;
@@ -16,7 +17,6 @@ use crate::rows::{ProcessBeside, ProcessesBeside, RunBeside};
 use block_events::Runner;
 use block_told::BlockTold;
 use good_runs::TriedStep;
-use known_steps::KnownStep;
 use std::alloc::Global;
 use std::sync::ledger::Ledger;
 use vf_base::{NoMemory, ProcId, Steps};
@@ -153,12 +153,13 @@ fn try_step<L: Ledger>(
     Ok(line)
 }
 
-/// The least ready process takes a step, as it is known, or else itself.
+/// The least ready process takes a step: as the good machine's run of its number, where its own goes as that and reads now what that read, or else itself.
 fn take_next<L: Ledger>(
     runner: &mut Runner,
     told: &mut BlockTold,
     process: ProcId,
-    known: Option<KnownStep<'_>>,
+    goods: &GoodPhase<'_>,
+    going: &Option<RunBeside>,
     place: StepPlace,
     tried: &mut Vec<TriedStep>,
     steps: &mut Steps<L>,
@@ -171,13 +172,17 @@ fn take_next<L: Ledger>(
     requires room { told.old.steps < 2 ^ 63 }
     requires rules { KeepsRules (machine_of runner.old).design }
     requires writes { WritesAreOf (machine_of runner.old).design (state_of runner.old) }
-    requires known { IfSome known (IsKnownHere (machine_of runner.old) (state_of runner.old) (process_number process)) }
+    requires number { process_number process < length (state_of runner.old).processes }
+    requires few { place.number < 2 ^ 32 }
+    requires may { MayBeAtRun (machine_of runner.old) (state_of runner.old) (process_number process) place.number goods.now going.now }
     ensures goes { OnOk result (StepsOn (process_number process) runner.old runner.new told.old told.new) }
-    ensures follows { IfOk result (λ took. took.follows ≡ is_some known) }
+    ensures took { IfOk result (λ took. (runs : ℕ → List ProcessRun) (numbers : ℕ → ℕ) (run : ProcessRun) → TellsBeside (machine_of runner.old) (state_of runner.old) runs numbers goods.now →
+        IsAtRun (machine_of runner.old) (state_of runner.old) (process_number process) (slice_get (runs (process_number process)) place.number) going.now run →
+        TookBeside (machine_of runner.old) (state_of runner.old) (process_number process) (slice_get (runs (process_number process)) place.number) run took.follows) }
     ensures tries { IfOk result (λ took. TriesSo (machine_of runner.old) (state_of runner.old) (process_number process) place.phase place.number place.taken tried.old.items tried.new.items steps.old steps.new
         took.follows) }
 {
-    match known {
+    match next_known(runner, goods, process, place.number, going) {
         Some(step) => {
             let line = runner.follow_step(process, told, step.line, step.act, step.next)?;
             Ok(Took {
@@ -228,13 +233,14 @@ pub fn step_beside<L: Ledger>(
 {
     let row = beside.processes.row(process);
     let number = u64::from(goods.numbers.number(process)) + row.ended;
-    let known = next_known(runner, goods, process, number, &row.going);
     let place = StepPlace {
         phase: goods.phase,
         number,
         taken: taken_of(&row.going),
     };
-    let took = take_next(runner, told, process, known, place, tried, steps)?;
+    let took = take_next(
+        runner, told, process, goods, &row.going, place, tried, steps,
+    )?;
     let ready = runner.is_ready(process);
     beside.keep(process, &row, took.follows, ready)?;
     Ok(took.line)

@@ -2,7 +2,7 @@
 
 ghost use Rattle.std.specs.Prelude.{◌≡◌, ◌<◌, ◌≤◌, ℕ, length, set, OnOk};
 ghost use Rattle.vf_base.specs.Base.{process_number};
-ghost use Rattle.block_runner.specs.Beside.{fresh, row_at};
+ghost use Rattle.block_runner.specs.Beside.{AreClean, fresh, row_at};
 
 use std::alloc::Global;
 use std::marker::Model;
@@ -42,7 +42,10 @@ impl Model for ProcessesBeside {
 }
 
 /// Of no process anything is kept.
-const FRESH: ProcessBeside = ProcessBeside { ended: 0, going: None };
+const FRESH: ProcessBeside = ProcessBeside {
+    ended: 0,
+    going: None,
+};
 
 /// Of some processes nothing is kept any more.
 fn clear_rows(rows: &mut Vec<ProcessBeside>, stepped: &[ProcId])
@@ -50,7 +53,7 @@ fn clear_rows(rows: &mut Vec<ProcessBeside>, stepped: &[ProcId])
     ensures length { length rows.new.items ≡ length rows.old.items }
     ensures fresh { (process : ℕ) → row_at rows.new.items process ≡ fresh }
 {
-    'stepped: for process in stepped {
+    'processes: for process in stepped {
         let number = process.0 as usize;
         if number < rows.len() {
             rows[number] = FRESH;

@@ -10,7 +10,7 @@ use Rattle.v_design.specs.Runs.{first_event, named_event, or_event}
 use Rattle.machine_laws.specs.SlotLoop.{NoNodeWorks, first_lane, first_ready, steps_of}
 use Rattle.machine_events.specs.Steps.{event_steps, step_of, steps-cons, steps-few}
 use Rattle.copy_laws.specs.Beside.{AreFirst}
-use Rattle.block_runner.proofs.Counted.{process-steps}
+use Rattle.faulty_block.proofs.Counted.{process-steps}
 use Rattle.unseen_writes.specs.Unseen.{StepsLane}
 
 -- where none of some events is a process or lane step, none steps a lane

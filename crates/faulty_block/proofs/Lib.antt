@@ -1,4 +1,5 @@
 pub mod Rests
+pub mod Counted
 pub mod Lanes
 pub mod KeptAlike
 pub mod Ran

@@ -1,21 +1,21 @@
 -- The phase of a place among those of a window, and the good machine's runs that end between two places of it.
 use Rattle.std.proofs.Common.{◌≡◌, ℕ, zero, suc, ◌+◌, ◌-◌, ◌<◌, ◌≤◌, List, [], ◌∷◌, ◌++◌, length, map, take, drop, refl, sym, ap, subst, ◌∙◌, arith}
 use Rattle.std.specs.Prelude.{Some, slice_get}
-use Rattle.std.specs.List.{take-map}
+use Rattle.std.specs.List.{drop-map, take-map}
 use Rattle.std.proofs.Math.Seq.{take-append_seam}
 use Rattle.std.proofs.lemmas.List.{length-append, length-map}
 use Rattle.std.proofs.lemmas.Option.{slice_get_within}
 use Rattle.v_design.specs.Designs.{FlatDesign, TestPlan, good_machine}
 use Rattle.v_design.specs.States.{State, Event}
 use Rattle.process_code.specs.declared.state.RunEnd.{RunEnd}
-use Rattle.run_ends.specs.RunEnds.{ender_told, enders_in}
+use Rattle.run_ends.specs.RunEnds.{Ender, ender_told, enders_in}
 use Rattle.between_slots.specs.Between.{window_phases}
 use Rattle.good_trace.specs.SlotsTold.{slot_run_ends}
 use Rattle.window_runs.specs.RunsByProcess.{run_process}
 use Rattle.boundary_ends.proofs.Counts.{enders-append}
 use Rattle.shown_blocks.proofs.Passed.{enders-there}
-use Rattle.good_moment.proofs.Parts.{runs-left}
 use Rattle.good_moment.specs.moment_laws.Places.{IsInWindow, IsShownAt}
+use Rattle.good_moment.specs.moment_laws.Steps.{slot_enders}
 use Rattle.good_moment.specs.moment_laws.Shown.{MomentKept}
 use Rattle.lockstep_steps.specs.lockstep_slots.Places.{Place, behind_events, state_there}
 use Rattle.lockstep_block.proofs.OwnRuns.{at-length}
@@ -31,6 +31,16 @@ pub phase-low : (design : FlatDesign) (plan : TestPlan) (from until : ℕ) (plac
     kept.phase < length (window_phases design plan from until)
 phase-low design plan from until place kept window shown =
     slice_get_within (window_phases design plan from until) kept.phase place.phase (phase-at design plan from until place kept window shown)
+
+ended-mapped : (runs : List RunEnd) → map (λ (ender : Ender). ender.process) (map ender_told runs) ≡ map run_process runs
+ended-mapped [] = refl
+ended-mapped (run ∷ runs) = ap (λ l. run_process run ∷ l) (ended-mapped runs)
+
+-- the processes of the runs that are left
+runs-left : (design : FlatDesign) (plan : TestPlan) (before number from : ℕ) (runs : List RunEnd) (left : List ℕ) → map ender_told runs ≡ slot_run_ends design plan before number →
+    drop from (slot_enders design plan before number) ≡ left → map run_process (drop from runs) ≡ left
+runs-left design plan before number from runs left are is =
+    sym (drop-map run_process from runs) ∙ ap (drop from) (sym (ended-mapped runs) ∙ ap (map (λ (ender : Ender). ender.process)) are) ∙ is
 
 -- of the runs of a slot those between two places are those that end in the events between
 pub record EndedTold (design : FlatDesign) (place : Place) (block : List Event) (before behind : MomentKept) (runs : List RunEnd) : Type 0 where

@@ -1,5 +1,6 @@
 -- Runs that one machine alone ended, as they are listed.
-use Rattle.std.proofs.Common.{◌≡◌, ℕ, ◌+◌, Bool, true, false, cond, List, [], ◌∷◌, ◌++◌, map, take, nat_eq, refl, sym, ap, subst, ◌∙◌, arith}
+use Rattle.std.proofs.Common.{◌≡◌, ℕ, ◌+◌, ◌<◌, ◌≤◌, Bool, true, false, cond, List, [], ◌∷◌, ◌++◌, get_or, length, map, take, nat_eq, refl, sym, ap, ◌∙◌, arith}
+use Rattle.std.proofs.lemmas.List.{map-append, take_all, take_more}
 use Rattle.std.proofs.lemmas.List.Sums.{sum_by_push, sum_by-cons}
 use Rattle.vf_base.specs.Base.{process_number}
 use Rattle.vf_base.specs.declared.ids.ProcId.{ProcId}
@@ -50,3 +51,11 @@ pub alike-noted : (old : List RunApart) (own good : List ℕ) → own ≡ good �
 alike-noted old own good same other =
     let times : times_of other own ≡ times_of other good = ap (times_of other) same in
     omega (arith, times)
+
+-- one element more of a list
+pub more-taken : {A B : Type 0} (f : A → B) (xs : List A) (place : ℕ) (x : A) → place < length xs → x ≡ get_or xs place x → map f (take (place + 1) xs) ≡ map f (take place xs) ++ f x ∷ []
+more-taken f xs place x low is = ap (map f) (take_more xs place x low ∙ ap (λ y. take place xs ++ y ∷ []) (sym is)) ∙ map-append f (take place xs) (x ∷ [])
+
+-- or all
+pub all-taken : {A B : Type 0} (f : A → B) (xs : List A) (place : ℕ) → length xs ≤ place → map f (take place xs) ≡ map f xs
+all-taken f xs place past = ap (map f) (take_all place xs past)

@@ -105,12 +105,12 @@ pub(crate) fn run_beside<N: World, L: Ledger>(
     ensures few { IfOk result (λ ran. IfSome ran (λ taken. taken ≤ most)) }
     ensures ran { IfOk result (λ ran. IfSome ran (λ taken. (of : MayRun (acts_beside behind.now) own.now runner.old) (runs : ℕ → List ProcessRun) (numbers : ℕ → ℕ) →
         TellsBeside (machine_of runner.old) (state_of runner.old) runs numbers goods.now →
-        RanBlock (faulty_machine (machine_of runner.old).design (fault_of fault)) (acts_beside behind.now) of.put.faulty (state_of runner.old) runs numbers goods.phase taken runner.new told.new
+        RanBlock (faulty_machine (machine_of runner.old).design (fault_of fault)) (acts_beside behind.now) of.put.faulty (state_of runner.old) runs numbers goods.now.phase taken runner.new told.new
         (map process_number beside.new.ended.items) (drop (length tried.old.items) tried.new.items))) }
     ensures ticks { OnOk result (TicksTried tried.old.items tried.new.items steps.old steps.new) }
     ensures most { OnOk result ((of : MayRun (acts_beside behind.now) own.now runner.old) (runs : ℕ → List ProcessRun) (numbers : ℕ → ℕ) →
         TellsBeside (machine_of runner.old) (state_of runner.old) runs numbers goods.now →
-        StepsWithin (faulty_machine (machine_of runner.old).design (fault_of fault)) of.put.faulty runs numbers goods.phase most (drop (length tried.old.items) tried.new.items)) }
+        StepsWithin (faulty_machine (machine_of runner.old).design (fault_of fault)) of.put.faulty runs numbers goods.now.phase most (drop (length tried.old.items) tried.new.items)) }
 {
     let block = show_block(behind);
     let ran = run_faulty(

@@ -8,7 +8,7 @@ ghost use Rattle.copy_laws.specs.Windows.{good_slots, time_at};
 ghost use Rattle.slot_strobes.specs.window_strobes.Passed.{HasPassed};
 ghost use Rattle.slot_strobes.specs.window_strobes.Strobes.{AreStrobesOf, passed_behind};
 ghost use Rattle.slot_strobes.specs.copy_window.ShardFaults.{IsShardFault};
-ghost use Rattle.window_faults.specs.Steps.{TakesNoFewer};
+ghost use Rattle.window_faults.specs.Steps.{StaysFault};
 ghost use Rattle.window_faults.specs.Within.{AreWithin, IsWithin};
 
 use crate::at::{FaultAt, comes_to, count_behind};
@@ -46,10 +46,8 @@ fn pass_first<N: World>(
     requires fault { IsShardFault N.design N.plan window.now.before strobes.now.passed own.old }
     requires none { own.old.end ≡ None }
     ensures within { IsWithin N.design N.plan window.now.before window.now.through own.new result }
-    ensures steps { TakesNoFewer N.design N.plan window.now.before own.old own.new }
+    ensures stays { StaysFault own.old own.new }
 {
-    slot_strobes::gradings_take_steps();
-    let design = setup.design();
     let fault = listed_fault(setup, &own.copy);
     let slots = window.slots();
     let _first = window.begins();
@@ -75,7 +73,7 @@ fn begin_one<N: World>(
     requires now { window.now.before < length (good_slots N.design N.plan) → time_at N.design N.plan window.now.before ≡ Some now }
     requires fault { IsShardFault N.design N.plan window.now.before strobes.now.passed own.old }
     ensures within { IsWithin N.design N.plan window.now.before window.now.through own.new result }
-    ensures steps { TakesNoFewer N.design N.plan window.now.before own.old own.new }
+    ensures stays { StaysFault own.old own.new }
 {
     let _first = window.begins();
     if own.end.is_some() {
@@ -103,7 +101,7 @@ pub fn begin_each<N: World>(
     requires now { window.now.before < length (good_slots N.design N.plan) → time_at N.design N.plan window.now.before ≡ Some now }
     requires faults { AllHold (IsShardFault N.design N.plan window.now.before strobes.now.passed) faults.old.items }
     ensures within { IfOk result (λ ats. AreWithin N.design N.plan window.now.before window.now.through 0 faults.new.items ats.items) }
-    ensures faults { OnOk result (AllZip (TakesNoFewer N.design N.plan window.now.before) faults.old.items faults.new.items) }
+    ensures faults { OnOk result (AllZip StaysFault faults.old.items faults.new.items) }
 {
     let mut ats = Vec::with_capacity(alloc, faults.len())?;
     'faults: for place in 0..faults.len() {

@@ -2,7 +2,7 @@
 //!
 //! `begin_each` finds where faults begin a window: each is passed over the slots at the window's beginning that touch nothing of its copy. `run_whole` grades a fault through
 //! one slot by its faulty machine. The main contract: behind so many slots of the window a fault stands as a fault of a shard does (`IsWithin`), it is the same fault, and one
-//! whose grading had ended stays as it was; a counter rises by no more than the process steps that its grading takes in the slot.
+//! whose grading had ended stays as it was; a counter rises by at most the own steps that its faulty machine takes in the slot.
 #![tactic(auto)]
 
 mod at;

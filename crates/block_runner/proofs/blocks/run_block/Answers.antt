@@ -1,9 +1,17 @@
 -- A lane's block has no steps of processes; else the block is run step by step.
-use Rattle.std.proofs.Common.{refl, sym}
+use Rattle.std.proofs.Common.{◌≡◌, ◌∙◌, ℕ, true, false, not, refl, sym, ap}
+use Rattle.std.specs.Prelude.{Option, Some, None, is_some}
+use Rattle.std.specs.Option.{option_map}
+use Rattle.vf_base.specs.declared.ids.ProcId.{ProcId}
+use Rattle.machine_laws.specs.SlotLoop.{first_ready}
 use Rattle.vf_base.specs.Base.{process_number}
 use Rattle.block_events.specs.Runners.{machine_of, state_of}
 use Rattle.block_runner.proofs.BlocksBeside.{idle-beside, lane-beside, no-ticks, no_lane-one}
 use Rattle.block_runner.proofs.blocks.run_block.Goals as goal
+
+none-ready : (found : Option ProcId) (first : Option ℕ) → option_map process_number found ≡ first → is_some found ≡ false → first ≡ None
+none-ready None first e none = sym e
+none-ready (Some process) first e none = absurd (cc)
 
 pub returns-in-Some-clause-goes : goal.returns-in-Some-clause-goes
 returns-in-Some-clause-goes g c =
@@ -21,6 +29,12 @@ returns-in-Some-clause-tried g c =
 pub returns-in-Some-clause-one : goal.returns-in-Some-clause-one
 returns-in-Some-clause-one g c =
     λ lane. c.in_ok-lane.ensures.one
+
+pub returns-then-is_none-clause-own : goal.returns-then-is_none-clause-own
+returns-then-is_none-clause-own g c =
+    idle-beside (machine_of c.args.runner.now) (state_of c.args.runner.now) c.args.most c.args.goods.now c.args.runner.now c.clear.new.self c.clear-2.new.self.ended.items c.args.tried.now.items
+    c.requires.whole refl refl c.clear.ensures
+    (c.requires.nodes, sym c.in_default.ensures, none-ready c.first_ready.result (first_ready (state_of c.args.runner.now)) c.first_ready.ensures (c.is_none.ensures ∙ ap not c.if-is_none.true))
 
 pub returns-then-is_none-clause-one : goal.returns-then-is_none-clause-one
 returns-then-is_none-clause-one g c =

@@ -24,6 +24,10 @@ runs-init g c =
     c.begin_block.ensures.whole c.begin_block.ensures.machine c.begin_block.ensures.state c.requires.nodes c.requires.lanes c.requires.ready c.begin_block.ensures.running c.requires.told
     c.requires.there c.requires.fresh c.requires.ended
 
+pub first_ready-requires : goal.first_ready-requires
+first_ready-requires g c =
+    c.runs.invariant.so_far.going.whole
+
 pub unreachable-requires : goal.unreachable-requires
 unreachable-requires g c =
     runs-ready _ _ c.runs.runner c.runs.told c.runs.taken c.runs.invariant.so_far (sym c.in_default.ensures)

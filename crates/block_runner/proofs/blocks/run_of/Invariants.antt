@@ -5,4 +5,4 @@ use Rattle.block_runner.proofs.blocks.run_of.Given as goal
 
 abbrev pub invariant-runs : goal.invariant-runs
 invariant-runs g l =
-    LoopBeside (machine_of l.fn.runner) (state_of l.fn.runner) l.fn.goods.now l.runner l.told l.taken l.beside.processes l.beside.ended.items l.fn.tried.items l.tried.items l.fn.steps l.steps
+    LoopBeside (machine_of l.fn.runner) (state_of l.fn.runner) l.fn.goods l.runner l.told l.taken l.beside.processes l.beside.ended.items l.fn.tried.items l.tried.items l.fn.steps l.steps

@@ -2,7 +2,7 @@
 use Rattle.std.proofs.Common.{◌≡◌, ◌+◌, sym, subst, ◌∙◌, arith}
 use Rattle.slot_strobes.specs.copy_window.ShardFaults.{IsShardFault}
 use Rattle.slot_strobes.specs.window_strobes.Passed.{HasPassed}
-use Rattle.window_faults.proofs.Steps.{takes-same}
+use Rattle.window_faults.proofs.Steps.{stays-same}
 use Rattle.window_faults.proofs.Within.{none-end, within-there}
 use Rattle.window_faults.proofs.begin.begin_one.Goals as goal
 
@@ -19,5 +19,5 @@ returns-then-is_some-clause-within g c =
     (omega (arith, c.begins-first.ensures.window.some)) (subst (λ n. IsShardFault design plan n c.args.strobes.now.passed c.args.own.now) here c.requires.fault)
     (λ none. subst (λ n. HasPassed design plan n c.args.strobes.now.passed) here c.requires.strobes.has_passed)
 
-pub returns-then-is_some-clause-steps : goal.returns-then-is_some-clause-steps
-returns-then-is_some-clause-steps g c = takes-same g.N.World.design g.N.World.plan c.args.window.now.before c.args.own.now
+pub returns-then-is_some-clause-stays : goal.returns-then-is_some-clause-stays
+returns-then-is_some-clause-stays g c = stays-same c.args.own.now

@@ -1,11 +1,10 @@
 -- Over all slots, or over the first ones, or none.
 use Rattle.std.proofs.Common.{◌≡◌, ℕ, ◌+◌, ◌<◌, sym, subst, ◌∙◌, arith}
-use Rattle.slot_strobes.proofs.window_strobes.Knowing.{design-rules}
 use Rattle.slot_strobes.specs.window_strobes.Neighbours.{slots-within}
 use Rattle.slot_strobes.specs.window_strobes.Passed.{HasPassed}
 use Rattle.slot_strobes.specs.window_strobes.Strobes.{passed_behind}
 use Rattle.slot_strobes.specs.copy_window.ShardFaults.{IsShardFault}
-use Rattle.window_faults.proofs.Steps.{stays-open, steps-here}
+use Rattle.window_faults.proofs.Steps.{stays-open}
 use Rattle.window_faults.proofs.Within.{is-listed, passed-to, within-there}
 use Rattle.window_faults.proofs.begin.pass_first.Goals as goal
 
@@ -51,15 +50,8 @@ returns-then-slot-slots-clause-within g c =
     (subst (λ (n : ℕ). IsShardFault design plan n (passed_behind c.args.strobes.now) own) (sym all) (c.pass_over-slot.ensures.all all))
     (λ none. subst (λ (n : ℕ). HasPassed design plan n (passed_behind c.args.strobes.now)) (sym all) c.requires.behind)
 
-pub returns-then-slot-slots-clause-steps : goal.returns-then-slot-slots-clause-steps
-returns-then-slot-slots-clause-steps g c =
-    let all : c.args.window.now.before + c.pass_over-slot.result ≡ c.args.window.now.through = omega (arith, c.if-slot-slots.true, c.slots-slots.ensures) in
-    record {
-      stays = stays-open c.args.own.now c.pass_over-slot.new.own c.pass_over-slot.ensures.place c.requires.none;
-      steps = steps-here c.gradings_take_steps.ensures g.N.World.design g.N.World.plan (design-rules g.N.World.design c.design-design.result.now c.design-design.ensures.world)
-          c.args.window.now.before c.args.window.now.through (omega (arith, all)) c.args.strobes.now.passed (passed_behind c.args.strobes.now) c.args.own.now c.pass_over-slot.new.own
-          c.requires.none c.pass_over-slot.ensures.place c.requires.fault (c.pass_over-slot.ensures.all all);
-    }
+pub returns-then-slot-slots-clause-stays : goal.returns-then-slot-slots-clause-stays
+returns-then-slot-slots-clause-stays g c = stays-open c.args.own.now c.pass_over-slot.new.own c.pass_over-slot.ensures.place c.requires.none
 
 pub returns-clause-within : goal.returns-clause-within
 returns-clause-within g c =
@@ -76,19 +68,5 @@ returns-clause-within g c =
     (λ some. c.pass_over-slot.ensures.part some further c.strobes_before-passed.result c.strobes_before-passed.ensures.since has))
     (λ none. has)
 
-pub returns-clause-steps : goal.returns-clause-steps
-returns-clause-steps g c =
-    let design = g.N.World.design in
-    let plan = g.N.World.plan in
-    let before = c.args.window.now.before in
-    let slot = c.pass_over-slot.result in
-    let own = c.pass_over-slot.new.own in
-    let further : before + slot < c.args.window.now.through = omega (arith, c.if-slot-slots.false, c.slots-slots.ensures, c.pass_over-slot.ensures.within) in
-    let has = c.strobes_before-passed.ensures.passed in
-    record {
-      stays = stays-open c.args.own.now own c.pass_over-slot.ensures.place c.requires.none;
-      steps = steps-here c.gradings_take_steps.ensures design plan (design-rules design c.design-design.result.now c.design-design.ensures.world) before (before + slot) (omega arith)
-          c.args.strobes.now.passed c.strobes_before-passed.result c.args.own.now own c.requires.none c.pass_over-slot.ensures.place c.requires.fault
-          (passed-to design plan before slot c.args.strobes.now.passed c.strobes_before-passed.result c.args.own.now own c.requires.fault c.requires.strobes.has_passed
-          c.pass_over-slot.ensures.stays has (λ some. c.pass_over-slot.ensures.part some further c.strobes_before-passed.result c.strobes_before-passed.ensures.since has));
-    }
+pub returns-clause-stays : goal.returns-clause-stays
+returns-clause-stays g c = stays-open c.args.own.now c.pass_over-slot.new.own c.pass_over-slot.ensures.place c.requires.none

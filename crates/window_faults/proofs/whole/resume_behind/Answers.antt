@@ -1,10 +1,12 @@
 -- From the slot behind so many.
-use Rattle.std.proofs.Common.{◌≡◌, ℕ, ◌+◌, subst, sym, arith}
-use Rattle.std.specs.Prelude.{None}
+use Rattle.std.proofs.Common.{◌≡◌, ℕ, ◌+◌, ◌∷◌, [], length, subst, sym, arith}
+use Rattle.v_design.specs.Designs.{TestPlan}
 use Rattle.v_design.specs.Plain.{fault_of}
 use Rattle.slot_strobes.specs.copy_window.Passing.{CanResume}
-use Rattle.slot_strobes.specs.graded_steps.Behind.{RisesWithin}
-use Rattle.slot_strobes.specs.copy_window.ShardFaults.{IsShardFault, steps_taken}
+use Rattle.copy_laws.specs.Windows.{RiseAtMostOwn}
+use Rattle.fault_strobes.specs.Said.{plan_by}
+use Rattle.window_beside.specs.Tried.{MayTry}
+use Rattle.slot_strobes.specs.copy_window.ShardFaults.{IsShardFault, kept_by}
 use Rattle.slot_strobes.specs.window_strobes.Strobes.{AreStrobesOf, passed_behind}
 use Rattle.window_faults.specs.Within.{StandsAfter}
 use Rattle.window_faults.proofs.Within.{can-go-on}
@@ -27,6 +29,11 @@ resume_fault-requires-clause-fault g c κs within =
     (can-go-on design plan (before + 0) c.args.window.now.through c.args.strobes.now.passed c.args.strobes.now (fault_of c.args.fault) c.args.own.now (omega (arith, c.requires.some)) (omega arith)
     (subst (λ (n : ℕ). StandsAfter design plan n c.args.strobes.now.passed (fault_of c.args.fault) c.args.own.now) here c.requires.fault)
     (subst (λ (n : ℕ). AreStrobesOf design plan n c.args.window.now.through c.args.strobes.now) same c.requires.strobes))
+
+pub resume_fault-requires-clause-tried : goal.resume_fault-requires-clause-tried
+resume_fault-requires-clause-tried g c κs within =
+    let here : c.args.window.now.before + c.args.passed ≡ c.args.window.now.before + 0 = omega (arith, c.if-passed-eq0.true) in
+    subst (λ (n : ℕ). MayTry g.N.World.design (plan_by (kept_by c.args.own.now) g.N.World.plan) n (fault_of c.args.fault) c.args.tried.now) here c.requires.tried
 
 pub strobes_after-requires-clause-some : goal.strobes_after-requires-clause-some
 strobes_after-requires-clause-some g c κs within = omega (arith, c.if-passed-eq0.false)
@@ -54,15 +61,13 @@ returns-clause-fault g c =
 
 pub returns-then-passed-eq0-clause-ticks : goal.returns-then-passed-eq0-clause-ticks
 returns-then-passed-eq0-clause-ticks g c =
-    subst (λ (n : ℕ). RisesWithin (steps_taken g.N.World.design g.N.World.plan (c.args.window.now.before + n) (fault_of c.args.fault) None)
-    (steps_taken g.N.World.design g.N.World.plan c.args.window.now.through (fault_of c.args.fault) c.resume_fault.new.own.end) c.args.steps.now c.resume_fault.new.steps)
-    (sym c.if-passed-eq0.true)
-    (subst (λ (n : ℕ). RisesWithin (steps_taken g.N.World.design g.N.World.plan (c.args.window.now.before + 0) (fault_of c.args.fault) None)
-    (steps_taken g.N.World.design g.N.World.plan n (fault_of c.args.fault) c.resume_fault.new.own.end) c.args.steps.now c.resume_fault.new.steps) c.slots-end.ensures
-    c.in_ok-resume_fault.ensures.ticks)
+    let P : TestPlan = plan_by (kept_by c.args.own.now) g.N.World.plan in
+    subst (λ (n : ℕ). RiseAtMostOwn g.N.World.design P (c.args.window.now.before + n) c.args.window.now.through (fault_of c.args.fault ∷ []) c.args.steps.now
+    (c.resume_fault.new.steps + length c.args.tried.now)) (sym c.if-passed-eq0.true)
+    (subst (λ (n : ℕ). RiseAtMostOwn g.N.World.design P (c.args.window.now.before + 0) n (fault_of c.args.fault ∷ []) c.args.steps.now (c.resume_fault.new.steps + length c.args.tried.now))
+    c.slots-end.ensures c.in_ok-resume_fault.ensures.ticks)
 
 pub returns-clause-ticks : goal.returns-clause-ticks
 returns-clause-ticks g c =
-    subst (λ (n : ℕ). RisesWithin (steps_taken g.N.World.design g.N.World.plan (c.args.window.now.before + c.args.passed) (fault_of c.args.fault) None)
-    (steps_taken g.N.World.design g.N.World.plan n (fault_of c.args.fault) c.resume_fault-2.new.own.end) c.args.steps.now c.resume_fault-2.new.steps) c.slots-end.ensures
-    c.in_ok-resume_fault-2.ensures.ticks
+    subst (λ (n : ℕ). RiseAtMostOwn g.N.World.design (plan_by (kept_by c.args.own.now) g.N.World.plan) (c.args.window.now.before + c.args.passed) n (fault_of c.args.fault ∷ []) c.args.steps.now
+    (c.resume_fault-2.new.steps + length c.args.tried.now)) c.slots-end.ensures c.in_ok-resume_fault-2.ensures.ticks

@@ -1,11 +1,11 @@
 -- To the window's end with its last slot, or slot by slot.
-use Rattle.std.proofs.Common.{◌≡◌, ℕ, ◌+◌, subst, ◌∙◌, arith}
-use Rattle.std.specs.Prelude.{None}
+use Rattle.std.proofs.Common.{◌≡◌, ℕ, ◌+◌, ◌∷◌, [], length, subst, ◌∙◌, arith}
 use Rattle.v_design.specs.Plain.{fault_of}
 use Rattle.slot_strobes.specs.window_strobes.Passed.{HasPassed}
 use Rattle.slot_strobes.specs.window_strobes.Strobes.{passed_behind}
-use Rattle.slot_strobes.specs.graded_steps.Behind.{RisesWithin}
-use Rattle.slot_strobes.specs.copy_window.ShardFaults.{IsShardFault, steps_taken}
+use Rattle.copy_laws.specs.Windows.{RiseAtMostOwn}
+use Rattle.fault_strobes.specs.Said.{plan_by}
+use Rattle.slot_strobes.specs.copy_window.ShardFaults.{IsShardFault, kept_by}
 use Rattle.window_faults.proofs.Within.{stands-after, within-there}
 use Rattle.window_faults.proofs.whole.run_whole.Goals as goal
 
@@ -34,8 +34,8 @@ returns-then-end-slots-clause-within g c =
 pub returns-then-end-slots-clause-ticks : goal.returns-then-end-slots-clause-ticks
 returns-then-end-slots-clause-ticks g c =
     let all : c.args.window.now.through ≡ c.args.window.now.before + (c.args.at.slot + 1) = omega (arith, c.if-end-slots.true, c.slots-slots.ensures) in
-    subst (λ (n : ℕ). RisesWithin (steps_taken g.N.World.design g.N.World.plan (c.args.window.now.before + c.args.at.slot) (fault_of c.args.fault) None)
-    (steps_taken g.N.World.design g.N.World.plan n (fault_of c.args.fault) c.resume_behind.new.own.end) c.args.steps.now c.resume_behind.new.steps) all c.in_ok-resume_behind.ensures.ticks
+    subst (λ (n : ℕ). RiseAtMostOwn g.N.World.design (plan_by (kept_by c.args.own.now) g.N.World.plan) (c.args.window.now.before + c.args.at.slot) n (fault_of c.args.fault ∷ [])
+    c.args.steps.now (c.resume_behind.new.steps + length c.args.tried.now)) all c.in_ok-resume_behind.ensures.ticks
 
 pub returns-clause-within : goal.returns-clause-within
 returns-clause-within g c =
