@@ -5,7 +5,7 @@ pub mod KeptBehind
 pub mod TriedThere
 pub mod OwnRuns
 pub mod OwnBlocks
-pub mod Ended
+pub mod EndedRuns
 pub mod Noted
 pub use Rattle.faulty_block.proofs.lockstep_room as lockstep_room
 pub use Rattle.faulty_block.proofs.lockstep_exchange as lockstep_exchange
