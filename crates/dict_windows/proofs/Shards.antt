@@ -65,7 +65,8 @@ faults-set (y ∷ ys) zero own d below same = ap (λ l. l ++ faults_in ys) same
 faults-set (y ∷ ys) (suc place) own d below same = ap (λ l. numbers_of y.kept ++ l) (faults-set ys place own d (omega (arith, below)) same)
 
 -- the own steps where one shard goes through a window
-pub steps-set : (design : FlatDesign) (plan : TestPlan) (tally : OwnStepsOf design plan) (shards : List KeepingShard) (place : ℕ) (old new : KeepingShard) (from before mid after : ℕ) → place < length shards →
+pub steps-set : (design : FlatDesign) (plan : TestPlan) (tally : OwnStepsOf design plan) (shards : List KeepingShard) (place : ℕ) (old new : KeepingShard) (from before mid after : ℕ) →
+    place < length shards →
     old ≡ get_or shards place old → RisesWithin from (all_steps tally shards) before mid →
     RisesWithin (kept_steps_of tally old) (kept_steps_of tally new) mid after → RisesWithin from (all_steps tally (set shards place new)) before after
 steps-set design plan tally shards place old new from before mid after low read so_far rises =

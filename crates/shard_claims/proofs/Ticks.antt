@@ -11,7 +11,8 @@ use Rattle.shard_claims.specs.Workers.{claimed_steps, worker_steps}
 
 module _ {N : Type 0} where
   -- one claim more
-  pub claimed-more : (design : FlatDesign) (plan : TestPlan) (tally : OwnStepsOf design plan) (old new : List (ClaimedShard N)) (more : ClaimedShard N) (before mid after : ℕ) → new ≡ old ++ more ∷ [] →
+  pub claimed-more : (design : FlatDesign) (plan : TestPlan) (tally : OwnStepsOf design plan) (old new : List (ClaimedShard N)) (more : ClaimedShard N) (before mid after : ℕ) →
+      new ≡ old ++ more ∷ [] →
       mid ≤ before + claimed_steps tally old → after ≤ mid + shard_steps tally more.shard → after ≤ before + claimed_steps tally new
   claimed-more design plan tally old new more before mid after is so_far rises =
       let sum : claimed_steps tally new ≡ claimed_steps tally old + shard_steps tally more.shard =
@@ -19,7 +20,8 @@ module _ {N : Type 0} where
       omega (arith, sum, so_far, rises)
 
   -- a worker
-  steps-by : (design : FlatDesign) (plan : TestPlan) (tally : OwnStepsOf design plan) (worker : Worker N) (dry : Bool) → worker.dry ≡ dry → worker_steps tally worker ≡ cond dry (claimed_steps tally worker.shards.items) 0
+  steps-by : (design : FlatDesign) (plan : TestPlan) (tally : OwnStepsOf design plan) (worker : Worker N) (dry : Bool) → worker.dry ≡ dry →
+      worker_steps tally worker ≡ cond dry (claimed_steps tally worker.shards.items) 0
   steps-by design plan tally worker dry is = ap (λ b. cond b (claimed_steps tally worker.shards.items) 0) is
 
   -- one that has claimed

@@ -36,7 +36,8 @@ none-at P found is at = subst (λ (o : Option _). IsSomeAnd o P) is at
 
 module _ {N : Type 0} where
   -- one worker with one counter
-  pub alone-steps : (design : FlatDesign) (plan : TestPlan) (tally : OwnStepsOf design plan) (found : Option (Worker N)) (worker after : Worker N) (mine : List ℕ) (d new : ℕ) → found ≡ Some worker → length mine ≡ 1 →
+  pub alone-steps : (design : FlatDesign) (plan : TestPlan) (tally : OwnStepsOf design plan) (found : Option (Worker N)) (worker after : Worker N) (mine : List ℕ) (d new : ℕ) →
+      found ≡ Some worker → length mine ≡ 1 →
       RisesWithin (worker_steps tally worker) (worker_steps tally after) (get_or mine 0 d) new →
       RisesWithin (steps_in tally found) (worker_steps tally after) (sum mine) (sum (set mine 0 new))
   alone-steps design plan tally found worker after mine d new is one rises =
@@ -62,7 +63,8 @@ module _ {N : Type 0} where
       omega (arith, a, b, c, d, one, others)
 
   -- a worker that has claimed
-  pub worker-claimed : (design : FlatDesign) (plan : TestPlan) (tally : OwnStepsOf design plan) (worker : Worker N) → worker.dry ≡ true → worker_steps tally worker ≡ claimed_steps tally worker.shards.items
+  pub worker-claimed : (design : FlatDesign) (plan : TestPlan) (tally : OwnStepsOf design plan) (worker : Worker N) → worker.dry ≡ true →
+      worker_steps tally worker ≡ claimed_steps tally worker.shards.items
   worker-claimed design plan tally worker dry = ap (λ b. cond b (claimed_steps tally worker.shards.items) 0) dry
 
   -- behind some slots each worker has claimed
@@ -80,7 +82,8 @@ module _ {N : Type 0} where
       ap (claimed_most tally) is ∙ sum_by-append (λ (claimed : ClaimedShard N). sum_by (fault_steps_at tally) (places_of claimed.shard.faults)) one other
 
   -- one shard more
-  pub claimed-within : (design : FlatDesign) (plan : TestPlan) (tally : OwnStepsOf design plan) (shards : List (ClaimedShard N)) (i : ℕ) (x : ClaimedShard N) → i < length shards → x ≡ get_or shards i x →
+  pub claimed-within : (design : FlatDesign) (plan : TestPlan) (tally : OwnStepsOf design plan) (shards : List (ClaimedShard N)) (i : ℕ) (x : ClaimedShard N) → i < length shards →
+      x ≡ get_or shards i x →
       claimed_steps tally (take i shards) ≤ claimed_most tally (take i shards) → shard_steps tally x.shard ≤ sum_by (fault_steps_at tally) (places_of x.shard.faults) →
       claimed_steps tally (take (i + 1) shards) ≤ claimed_most tally (take (i + 1) shards)
   claimed-within design plan tally shards i x low read so_far one =

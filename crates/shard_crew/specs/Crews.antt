@@ -16,10 +16,6 @@ use Rattle.v_design.specs.Designs.{FlatDesign, TestPlan}
 use Rattle.shard_claims.specs.Workers.{IsWorkerAt, worker_steps, KeepsShards}
 use Rattle.shard_crew.specs.declared.gathered.Gathered.{Gathered}
 
--- some counters rose together by no more than one number is above another, both made of the own steps of faults
-pub record RoseOwn (design : FlatDesign) (plan : TestPlan) (from to : OwnStepsOf design plan → ℕ) (before after : List ℕ) : Type 0 where
-  pub rises : RisesOwn design plan from to (sum before) (sum after)
-
 module _ {N : Type 0} where
   -- Shards
 
@@ -49,6 +45,14 @@ module _ {N : Type 0} where
   abbrev pub steps_in : {design : FlatDesign} {plan : TestPlan} → OwnStepsOf design plan → Option (Worker N) → ℕ
   steps_in tally None = 0
   steps_in tally (Some worker) = worker_steps tally worker
+
+  -- some counters rose together by no more than the own steps of the faults of all workers
+  pub record CrewRose (design : FlatDesign) (plan : TestPlan) (old new : List (Worker N)) (before after : List ℕ) : Type 0 where
+    pub rises : RisesOwn design plan (λ tally. crew_steps tally old) (λ tally. crew_steps tally new) (sum before) (sum after)
+
+  -- of the faults of one worker
+  pub record WorkerRose (design : FlatDesign) (plan : TestPlan) (found : Option (Worker N)) (after_it : Worker N) (before after : List ℕ) : Type 0 where
+    pub rises : RisesOwn design plan (λ tally. steps_in tally found) (λ tally. worker_steps tally after_it) (sum before) (sum after)
 
   -- so many workers behind so many slots
   pub record AreWorkersAt (representatives : List ℕ) (board : Board N) (gone count : ℕ) (workers : List (Worker N)) : Type 0 where

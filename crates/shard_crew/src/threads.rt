@@ -2,8 +2,8 @@
 
 ghost use Rattle.std.specs.Prelude.{◌≡◌, length, IfOk, OnOk, IsSomeAnd};
 ghost use Rattle.fault_shards.specs.Shards.{representatives_of};
-ghost use Rattle.shard_claims.specs.Workers.{IsPlaceOf, IsWorkerAt, worker_steps};
-ghost use Rattle.shard_crew.specs.Crews.{AreWorkersAt, RoseOwn, crew_steps, steps_in};
+ghost use Rattle.shard_claims.specs.Workers.{IsPlaceOf, IsWorkerAt};
+ghost use Rattle.shard_crew.specs.Crews.{AreWorkersAt, CrewRose, WorkerRose};
 ghost use Rattle.shard_crew.specs.Crossings.{MayCross};
 
 use shard_claims::{Round, Worker, work};
@@ -24,7 +24,7 @@ fn work_alone<N: World, G: Gate, L: Ledger>(
     requires at { IsSomeAnd worker.old (IsWorkerAt (representatives_of round.now.shards.now) round.now.board.now round.now.window.now.before) }
     requires one { length mine.old ≡ 1 }
     ensures through { IfOk result (IsWorkerAt (representatives_of round.now.shards.now) round.now.board.now round.now.window.now.through) }
-    ensures ticks { IfOk result (λ after. RoseOwn N.design N.plan (λ tally. steps_in tally worker.old) (λ tally. worker_steps tally after) mine.old mine.new) }
+    ensures ticks { IfOk result (λ after. WorkerRose N.design N.plan worker.old after mine.old mine.new) }
 {
     let Some(worker) = worker.take() else {
         unreachable!();
@@ -50,7 +50,7 @@ pub fn crew<N: World, R: Threads + Sync, G: Gate + Sync, L: Ledger + Send + Sync
     // What the bounds of the type parameters say.
     requires bounds { MayCross N.row R.row G.row L.row }
     ensures through { OnOk result (AreWorkersAt (representatives_of round.now.shards.now) round.now.board.now round.now.window.now.through (length steps.old) workers.new.items) }
-    ensures ticks { OnOk result (RoseOwn N.design N.plan (λ tally. crew_steps tally workers.old.items) (λ tally. crew_steps tally workers.new.items) steps.old steps.new) }
+    ensures ticks { OnOk result (CrewRose N.design N.plan workers.old.items workers.new.items steps.old steps.new) }
 {
     let Some(worker) = workers.pop() else {
         return Ok(());
@@ -72,7 +72,7 @@ pub fn crew<N: World, R: Threads + Sync, G: Gate + Sync, L: Ledger + Send + Sync
             requires at { IsSomeAnd first (IsWorkerAt (representatives_of round.now.shards.now) round.now.board.now round.now.window.now.before) }
             requires one { length mine.now ≡ 1 }
             ensures through { IfOk result (IsWorkerAt (representatives_of round.entry.now.shards.now) round.entry.now.board.now round.entry.now.window.now.through) }
-            ensures ticks { IfOk result (λ after. RoseOwn N.design N.plan (λ tally. steps_in tally first.entry) (λ tally. worker_steps tally after) mine.entry.now mine.exit.now) }
+            ensures ticks { IfOk result (λ after. WorkerRose N.design N.plan first.entry after mine.entry.now mine.exit.now) }
         { work_alone(alloc, round, &mut first, mine) },
         &mut || -> Result<(), NoMemory>
             requires place { IsPlaceOf N.design N.plan round.now.shards.now round.now.board.now }
@@ -80,7 +80,7 @@ pub fn crew<N: World, R: Threads + Sync, G: Gate + Sync, L: Ledger + Send + Sync
             requires bounds { MayCross N.row R.row G.row L.row }
             ensures through { OnOk result (AreWorkersAt (representatives_of round.entry.now.shards.now) round.entry.now.board.now round.entry.now.window.now.through
                 (length others.entry.now) workers.exit.now.items) }
-            ensures ticks { OnOk result (RoseOwn N.design N.plan (λ tally. crew_steps tally workers.entry.now.items) (λ tally. crew_steps tally workers.exit.now.items)
+            ensures ticks { OnOk result (CrewRose N.design N.plan workers.entry.now.items workers.exit.now.items
                 others.entry.now others.exit.now) }
         { crew(rt, theirs, round, workers, others) },
     );

@@ -3,7 +3,7 @@
 ghost use Rattle.std.specs.Prelude.{◌≡◌, true, length, sum, IfOk, OnOk};
 ghost use Rattle.fault_shards.specs.Shards.{representatives_of};
 ghost use Rattle.shard_crew.specs.shard_claims.Workers.{IsPlaceOf};
-ghost use Rattle.shard_crew.specs.Crews.{AreWorkersAt, RoseOwn, crew_steps};
+ghost use Rattle.shard_crew.specs.Crews.{AreWorkersAt, CrewRose};
 ghost use Rattle.good_windows.specs.Next.{steps_of_slots};
 ghost use Rattle.shard_rounds.specs.Rounds.{GoodTicks, IsBeforeRound, GoesOn, RoseWithin, RoundTicks, RunsOn};
 ghost use Rattle.shard_crew.specs.Crossings.{MayCross};
@@ -71,7 +71,7 @@ fn go_round<N: World, R: Threads + Sync, G: Gate + Sync, L: Ledger + Send + Sync
     requires one { length own.old ≡ 1 }
     ensures through { OnOk result (AreWorkersAt (representatives_of round.now.shards.now) round.now.board.now round.now.window.now.through (length steps.old) workers.new.items) }
     ensures next { IfOk result (λ next. RunsOn N.design N.plan round.now.window.now.through ahead.new.run next) }
-    ensures ticks { OnOk result (RoseOwn N.design N.plan (λ tally. crew_steps tally workers.old.items) (λ tally. crew_steps tally workers.new.items) steps.old steps.new) }
+    ensures ticks { OnOk result (CrewRose N.design N.plan workers.old.items workers.new.items steps.old steps.new) }
     ensures good { OnOk result (RoseWithin (steps_of_slots N.design N.plan ahead.old.run.ran) (steps_of_slots N.design N.plan ahead.new.run.ran) own.old own.new) }
 {
     let (a, b) = join_mut(
@@ -82,7 +82,7 @@ fn go_round<N: World, R: Threads + Sync, G: Gate + Sync, L: Ledger + Send + Sync
             requires bounds { MayCross N.row R.row G.row L.row }
             ensures through { OnOk result (AreWorkersAt (representatives_of round.entry.now.shards.now) round.entry.now.board.now round.entry.now.window.now.through
                 (length steps.entry.now) workers.exit.now.items) }
-            ensures ticks { OnOk result (RoseOwn N.design N.plan (λ tally. crew_steps tally workers.entry.now.items) (λ tally. crew_steps tally workers.exit.now.items)
+            ensures ticks { OnOk result (CrewRose N.design N.plan workers.entry.now.items workers.exit.now.items
                 steps.entry.now steps.exit.now) }
         { crew(rt, alloc, round, workers, steps) },
         &mut || -> Result<NextWindow<N>, NoMemory>

@@ -149,7 +149,8 @@ module _ {N : Type 0} (representatives : List ℕ) (gone count : ℕ) (v : View)
 
 -- The own steps of the shards' faults
 
-steps-map : {N : Type 0} (design : FlatDesign) (plan : TestPlan) (tally : OwnStepsOf design plan) (claimed : List (ClaimedShard N)) → work_steps tally (map claimed_shard claimed) ≡ claimed_most tally claimed
+steps-map : {N : Type 0} (design : FlatDesign) (plan : TestPlan) (tally : OwnStepsOf design plan) (claimed : List (ClaimedShard N)) →
+    work_steps tally (map claimed_shard claimed) ≡ claimed_most tally claimed
 steps-map design plan tally [] = refl
 steps-map design plan tally (one ∷ claimed) =
     sum_by-cons (λ (own : ShardKept). sum_by (fault_steps_at tally) (places_of own.faults)) one.shard (map claimed_shard claimed)

@@ -1,7 +1,7 @@
 -- Those runs end in the block.
 use Rattle.std.proofs.Common.{◌-◌, ◌<◌, map, take, drop, ◌∙◌, arith}
 use Rattle.window_runs.specs.RunsByProcess.{run_process}
-use Rattle.lockstep_block.proofs.Ended.{ended-told, none-ended}
+use Rattle.lockstep_block.proofs.EndedRuns.{ended-told, none-ended}
 use Rattle.lockstep_block.proofs.ended.good_ended.Goals as goal
 
 pub runs_in-runs-requires : goal.runs_in-runs-requires

@@ -1,7 +1,7 @@
 -- The phase is one of the window's.
 use Rattle.std.proofs.Common.{◌≡◌, ◌+◌, ◌≤◌, length, refl, sym, ap, ◌∙◌, arith}
 use Rattle.between_slots.specs.Between.{window_phases}
-use Rattle.lockstep_block.proofs.Ended.{phase-at, phase-low}
+use Rattle.lockstep_block.proofs.EndedRuns.{phase-at, phase-low}
 use Rattle.lockstep_block.proofs.goods.good_phase.Goals as goal
 
 pub phases_before-first-requires : goal.phases_before-first-requires

@@ -1,8 +1,8 @@
 -- All workers come back.
 use Rattle.std.proofs.Common.{◌≡◌, ◌+◌, ◌*◌, ◌<◌, ◌++◌, ◌∷◌, [], length, sym, subst, arith, rules}
 use Rattle.fault_shards.specs.Shards.{representatives_of}
-use Rattle.std.specs.Prelude.{sum}
-use Rattle.shard_crew.specs.Crews.{AreWorkersAt, RoseOwn, crew_steps}
+use Rattle.std.specs.Prelude.{sum, Some}
+use Rattle.shard_crew.specs.Crews.{AreWorkersAt, CrewRose, WorkerRose, crew_steps}
 use contract.Lifetimes.{Lfts}
 use denote.Exit.{no}
 use denote.Param.{param}
@@ -13,7 +13,7 @@ use Rattle.shard_claims.proofs.worker.Worker.TheSendSync as worker_crosses
 use Rattle.shard_crew.proofs.Crossing.{option_send, round_sync}
 use Rattle.shard_crew.proofs.Manning.{none-popped, workers-last, workers-more, workers-no}
 use Rattle.shard_claims.specs.graded_steps.Behind.{RisesWithin}
-use Rattle.shard_claims.specs.Workers.{IsWorkerAt, worker_steps}
+use Rattle.shard_claims.specs.Workers.{IsWorkerAt}
 use Rattle.shard_crew.proofs.Ticks.{crew-more, nothing-rises}
 use Rattle.shard_crew.proofs.threads.+crew+fn-crew-join_mut+arg3.Given.{Over}
 use Rattle.shard_crew.proofs.threads.+crew+fn-crew-join_mut+arg3.Lts-crew.{arg-11-1}
@@ -100,9 +100,9 @@ returns-clause-through g t c =
 
 pub returns-clause-ticks : goal.returns-clause-ticks
 returns-clause-ticks g t c =
-    let mine : RoseOwn g.N.World.design g.N.World.plan (λ tally. worker_steps tally c.in-Some.worker) (λ tally. worker_steps tally c.in_ok-worker-2.worker)
+    let mine : WorkerRose g.N.World.design g.N.World.plan (Some c.in-Some.worker) c.in_ok-worker-2.worker
     c.split_at_mut-others.result.1.now c.mine-2-1.given.0 = search rules in
-    let others : RoseOwn g.N.World.design g.N.World.plan (λ tally. crew_steps tally c.pop.new.self.items) (λ tally. crew_steps tally c.workers-1.given.0.items)
+    let others : CrewRose g.N.World.design g.N.World.plan c.pop.new.self.items c.workers-1.given.0.items
     c.split_at_mut-others.result.0.now c.others-1.given.0 = search rules in record {
       rises = λ tally.
           crew-more g.N.World.design g.N.World.plan tally c.args.workers.now.items c.pop.new.self.items c.workers-1.given.0.items c.push-2.new.self.items c.in-Some.worker c.in_ok-worker-2.worker

@@ -1,7 +1,7 @@
 -- What both came back with.
 use Rattle.std.proofs.Common.{subst, rules}
 use Rattle.std.specs.Prelude.{OnOk}
-use Rattle.shard_crew.specs.Crews.{RoseOwn, crew_steps}
+use Rattle.shard_crew.specs.Crews.{CrewRose}
 use Rattle.shard_rounds.specs.Rounds.{RunsOn}
 use contract.Lifetimes.{Lfts}
 use denote.Param.{param}
@@ -30,7 +30,7 @@ returns-clause-next g c =
 
 pub returns-clause-ticks : goal.returns-clause-ticks
 returns-clause-ticks g c =
-    let rose : OnOk c.join_mut-a.result.0 (RoseOwn g.N.World.design g.N.World.plan (λ tally. crew_steps tally c.args.workers.now.items) (λ tally. crew_steps tally c.workers-1.given.0.items)
+    let rose : OnOk c.join_mut-a.result.0 (CrewRose g.N.World.design g.N.World.plan c.args.workers.now.items c.workers-1.given.0.items
     c.args.steps.now c.steps-1.given.0) = search rules in
-    subst (λ r. OnOk r (RoseOwn g.N.World.design g.N.World.plan (λ tally. crew_steps tally c.args.workers.now.items) (λ tally. crew_steps tally c.workers-1.given.0.items)
+    subst (λ r. OnOk r (CrewRose g.N.World.design g.N.World.plan c.args.workers.now.items c.workers-1.given.0.items
     c.args.steps.now c.steps-1.given.0)) c.in_ok-a.was rose
