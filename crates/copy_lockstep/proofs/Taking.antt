@@ -1,7 +1,7 @@
 -- The own steps of the slot that a fault entered in lockstep (steps by IEEE 1364-2001, clause 9; slots by clause 5).
 use Rattle.std.proofs.Common.{◌≡◌, ℕ, zero, suc, ◌+◌, ◌-◌, ◌<◌, ◌≤◌, Bool, true, false, cond, List, [], ◌∷◌, ◌++◌, length, take, drop, refl, sym, ap, subst, ◌∙◌, arith, inl, inr}
-use Rattle.std.specs.Prelude.{◌≢◌, ◌⊎◌, Option, Some, None, find, nat_eq, nat_le, slice_get}
-use Rattle.std.specs.List.{AllZip, sum}
+use Rattle.std.specs.Prelude.{Option, Some, None, find, nat_eq, nat_le, slice_get}
+use Rattle.std.specs.List.{AllZip}
 use Rattle.std.proofs.lemmas.Bool.{cases_lt, eq-eqb, eqb-true, le-leb, lt-ltb}
 use Rattle.std.proofs.lemmas.List.{append-nil}
 use Rattle.std.proofs.lemmas.Option.{slice_get_cases}

@@ -1,16 +1,16 @@
 -- The own steps of a shard's faults through a window (steps by IEEE 1364-2001, clause 9; slots by clause 5).
-use Rattle.std.proofs.Common.{◌≡◌, ℕ, zero, suc, ◌+◌, ◌≤◌, Bool, true, false, List, [], ◌∷◌, ◌++◌, map, refl, sym, ap, subst, ◌∙◌, inl, inr, arith}
+use Rattle.std.proofs.Common.{◌≡◌, ℕ, zero, suc, ◌+◌, ◌≤◌, Bool, true, false, List, [], ◌∷◌, map, refl, sym, ap, subst, ◌∙◌, inl, inr, arith}
 use Rattle.std.proofs.lemmas.Bool.{true≢false}
 use Rattle.std.specs.Prelude.{Option, Some, None, is_some, option_map, slice_get, sum_by}
-use Rattle.std.specs.List.{AllZip, cons_option, filter_map, sum}
-use Rattle.std.proofs.lemmas.List.Sums.{sum_by-append, sum_by-cons}
+use Rattle.std.specs.List.{cons_option, sum}
+use Rattle.std.proofs.lemmas.List.Sums.{sum_by-cons}
 use Rattle.vf_base.specs.Lists.{AllHold}
 use Rattle.vf_base.specs.declared.finding.End.{End}
 use Rattle.v_design.specs.Designs.{FlatDesign, StuckAt, TestPlan}
 use Rattle.v_design.specs.Plain.{grade_of}
 use Rattle.v_design.specs.Runs.{FirstSlot}
 use Rattle.v_design.specs.WellFormed.{KeepsRules}
-use Rattle.copy_laws.specs.Windows.{HasEnded, RiseAtMostOwn, good_slots, runs_between, time_at}
+use Rattle.copy_laws.specs.Windows.{RiseAtMostOwn, good_slots, time_at}
 use Rattle.own_gradings.specs.Laws.{GoOn, OwnStepsRise}
 use Rattle.own_gradings.specs.Numbers.{OwnStepsOf, RisesOwn}
 use Rattle.shard_windows.specs.graded_steps.Behind.{RisesWithin}

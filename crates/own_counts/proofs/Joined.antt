@@ -68,7 +68,8 @@ abbrev runs_in : (FirstSlot → List (Option ProcessRun × ProcessRun)) → List
 runs_in f slots = joined (map f slots)
 
 module _ (f : FirstSlot → List (Option ProcessRun × ProcessRun)) where
-  split-one : (a b c : Bool) → Part a b c → (slot : FirstSlot) (all one other : List FirstSlot) → ((counts : List ℕ) → AllZip CountsOwn (runs_in f all) counts → Split (runs_in f one) (runs_in f other) counts) →
+  split-one : (a b c : Bool) → Part a b c → (slot : FirstSlot) (all one other : List FirstSlot) → ((counts : List ℕ) → AllZip CountsOwn (runs_in f all) counts →
+      Split (runs_in f one) (runs_in f other) counts) →
       (counts : List ℕ) → AllZip CountsOwn (runs_in f (cond a (slot ∷ all) all)) counts → Split (runs_in f (cond b (slot ∷ one) one)) (runs_in f (cond c (slot ∷ other) other)) counts
   split-one true true true part slot all one other rest counts zip = absurd part
   split-one true true false part slot all one other rest counts zip =
@@ -152,7 +153,8 @@ stretch-splits design plan fault from between until one other =
     (first_run (faulty_machine design fault) plan.end)
 
 joins-slots : (design : FlatDesign) (plan : TestPlan) (fault : StuckAt) (from between until : Option ℕ) (ticked more : ℕ) → IsByToo from between → IsByToo between until →
-    AtMostOwn (runs_between design plan from between fault) ticked → AtMostOwn (runs_between design plan between until fault) more → AtMostOwn (runs_between design plan from until fault) (ticked + more)
+    AtMostOwn (runs_between design plan from between fault) ticked → AtMostOwn (runs_between design plan between until fault) more →
+    AtMostOwn (runs_between design plan from until fault) (ticked + more)
 joins-slots design plan fault from between until ticked more one other low high counts zip =
     let both = stretch-splits design plan fault from between until one other counts zip in
     let first = low both.left both.first in
@@ -162,7 +164,8 @@ joins-slots design plan fault from between until ticked more one other low high 
 
 -- One slot, or none
 
-none-slots : (design : FlatDesign) (plan : TestPlan) (fault : StuckAt) (from until : Option ℕ) → slots_between design plan fault from until ≡ [] → AtMostOwn (runs_between design plan from until fault) 0
+none-slots : (design : FlatDesign) (plan : TestPlan) (fault : StuckAt) (from until : Option ℕ) → slots_between design plan fault from until ≡ [] →
+    AtMostOwn (runs_between design plan from until fault) 0
 none-slots design plan fault from until is =
     subst (λ (slots : List FirstSlot). AtMostOwn (runs_in (slot_beside (good_machine design) (faulty_machine design fault) (first_run (good_machine design) plan.end)) slots) 0) (sym is) none-runs
 

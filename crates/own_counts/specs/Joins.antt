@@ -26,11 +26,14 @@ pub record OwnStepsJoin : Type 0 where
   pub phases : (good faulty : Machine) (others before : List Phase) (phase : Phase) (ticked more : ℕ) → AtMostOwn (phases_beside good faulty others before) ticked →
       AtMostOwn (phase_beside good faulty (slice_get others (length before)) phase) more → AtMostOwn (phases_beside good faulty others (before ++ phase ∷ [])) (ticked + more)
   -- no slot between two times, or one
-  pub none : (design : FlatDesign) (plan : TestPlan) (fault : StuckAt) (from until : Option ℕ) → slots_between design plan fault from until ≡ [] → AtMostOwn (runs_between design plan from until fault) 0
+  pub none : (design : FlatDesign) (plan : TestPlan) (fault : StuckAt) (from until : Option ℕ) → slots_between design plan fault from until ≡ [] →
+      AtMostOwn (runs_between design plan from until fault) 0
   pub slot : (design : FlatDesign) (plan : TestPlan) (fault : StuckAt) (from until : Option ℕ) (slot : FirstSlot) (ticked : ℕ) → slots_between design plan fault from until ≡ slot ∷ [] →
       AtMostOwn (slot_beside (good_machine design) (faulty_machine design fault) (first_run (good_machine design) plan.end) slot) ticked → AtMostOwn (runs_between design plan from until fault) ticked
   -- a stretch and the next one
   pub joins : (design : FlatDesign) (plan : TestPlan) (fault : StuckAt) (from between until : Option ℕ) (ticked more : ℕ) → IsByToo from between → IsByToo between until →
-      AtMostOwn (runs_between design plan from between fault) ticked → AtMostOwn (runs_between design plan between until fault) more → AtMostOwn (runs_between design plan from until fault) (ticked + more)
+      AtMostOwn (runs_between design plan from between fault) ticked → AtMostOwn (runs_between design plan between until fault) more →
+      AtMostOwn (runs_between design plan from until fault) (ticked + more)
   -- behind the end of its grading a fault takes no own steps
-  pub over : (design : FlatDesign) (plan : TestPlan) (fault : StuckAt) (time : ℕ) (until : Option ℕ) → fault_end design plan fault ≤ time → AtMostOwn (runs_between design plan (Some time) until fault) 0
+  pub over : (design : FlatDesign) (plan : TestPlan) (fault : StuckAt) (time : ℕ) (until : Option ℕ) → fault_end design plan fault ≤ time →
+      AtMostOwn (runs_between design plan (Some time) until fault) 0

@@ -1,12 +1,11 @@
 -- A fault behind a slot, and the own steps that it takes there (steps by IEEE 1364-2001, clause 9; slots by clause 5).
-use Rattle.std.proofs.Common.{◌≡◌, ℕ, suc, ◌+◌, ◌≤◌, List, [], ◌∷◌, length, sym, ap, subst, ◌∙◌, arith, inl, inr}
-use Rattle.std.specs.Prelude.{None, slice_get}
+use Rattle.std.proofs.Common.{◌≡◌, ℕ, suc, ◌+◌, ◌≤◌, [], ◌∷◌, length, ap, subst, arith, inl, inr}
+use Rattle.std.specs.Prelude.{None}
 use Rattle.v_design.specs.Designs.{FlatDesign, TestPlan}
 use Rattle.v_design.specs.Plain.{fault_of}
 use Rattle.v_design.specs.WellFormed.{KeepsRules}
 use Rattle.copy_laws.specs.Windows.{RiseAtMostOwn}
 use Rattle.fault_strobes.specs.Said.{plan_by}
-use Rattle.good_runs.specs.declared.tried.TriedStep.{TriedStep}
 use Rattle.own_gradings.specs.Laws.{OwnStepsRise}
 use Rattle.own_gradings.specs.Numbers.{OwnStepsOf}
 use Rattle.copy_lockstep.specs.graded_steps.Behind.{RisesWithin}

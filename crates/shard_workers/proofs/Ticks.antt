@@ -1,5 +1,5 @@
 -- Counters that no worker has stay.
-use Rattle.std.proofs.Common.{◌≡◌, ℕ, ◌+◌, ◌≤◌, List, ◌++◌, arith}
+use Rattle.std.proofs.Common.{◌≡◌, ℕ, ◌+◌, List, ◌++◌, arith}
 use Rattle.std.specs.Prelude.{sum}
 use Rattle.std.proofs.lemmas.List.Sums.{sum_by-append}
 use Rattle.v_design.specs.Designs.{FlatDesign, TestPlan}

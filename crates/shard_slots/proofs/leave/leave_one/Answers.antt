@@ -1,6 +1,6 @@
 -- Passed, through in lockstep, or whole.
 use Rattle.std.proofs.Common.{◌≡◌, ℕ, ◌+◌, true, false, [], ◌∷◌, length, sym, ap, subst, ◌∙◌, arith}
-use Rattle.std.specs.Prelude.{None, is_some}
+use Rattle.std.specs.Prelude.{is_some}
 use Rattle.copy_lockstep.proofs.window_strobes.Knowing.{design-rules}
 use Rattle.v_design.specs.Plain.{fault_of}
 use Rattle.copy_laws.specs.Windows.{RiseAtMostOwn}

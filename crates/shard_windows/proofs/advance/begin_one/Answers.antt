@@ -1,6 +1,6 @@
 -- A fault whose grading ended stays as it is; any other is run from the start on.
 use Rattle.std.proofs.Common.{◌≡◌, ℕ, ◌<◌, false, [], ◌∷◌, sym, subst, ◌∙◌, arith}
-use Rattle.std.specs.Prelude.{None, is_some}
+use Rattle.std.specs.Prelude.{is_some}
 use Rattle.v_design.specs.Plain.{fault_of}
 use Rattle.copy_laws.specs.Windows.{RiseAtMostOwn}
 use Rattle.fault_strobes.specs.Said.{plan_by}
