@@ -343,7 +343,7 @@ module _ (law : StepLaws) (design : FlatDesign) (plan : TestPlan) (fault : Stuck
 
   module _ (tried : List TriedStep) (own : TriedInSlot design fault may.slot begins tried) where
     were : WereTried (good_machine design) (faulty_machine design fault) (phases (good_machine design) may.slot) begins tried
-    were = record { to = own.to; comes = own.comes; begins_is = own.begins_is; own = own.so_far }
+    were = record { to = own.to; comes = own.comes; begins_is = own.begins_is; own = own.own }
 
     pub takes-again : WasTried design P gone fault tried
     takes-again = record {
