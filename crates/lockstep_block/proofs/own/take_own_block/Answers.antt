@@ -2,6 +2,7 @@
 use Rattle.std.proofs.Common.{ℕ, ◌+◌, ◌-◌, ◌<◌, ◌≤◌, List, drop, length, map, refl, subst, sym, ◌∙◌, arith}
 use Rattle.std.specs.Prelude.{IfSome, Option}
 use Rattle.vf_base.specs.Base.{process_number}
+use Rattle.vf_base.specs.declared.ids.ProcId.{ProcId}
 use Rattle.v_design.specs.Designs.{good_machine, faulty_machine}
 use Rattle.v_design.specs.OwnSteps.{ProcessRun}
 use Rattle.v_design.specs.Plain.{fault_of}
@@ -14,7 +15,7 @@ use Rattle.faulty_block.specs.Runs.{MayRun, RanBlock}
 use Rattle.faulty_block.specs.moment_shown.Shown.{Shows}
 use Rattle.run_numbers.specs.declared.numbers.RunApart.{RunApart}
 use Rattle.lockstep_block.specs.Beside.{acts_beside}
-use Rattle.lockstep_block.specs.Runs.{IsGoodPhase}
+use Rattle.lockstep_block.specs.Runs.{IsGoodPhase, NotesEnded}
 use Rattle.lockstep_block.proofs.OwnBlocks.{BlockLaws, goes-there, may-compare, may-run, noted-goes, ran-beside, spent, ticks-told, tried-there}
 use Rattle.lockstep_block.proofs.OwnRuns.{RunLaws, few-goods, goods, numbers, tells-goods}
 use Rattle.lockstep_block.proofs.own.take_own_block.Goals as goal
@@ -221,7 +222,7 @@ returns-clause-took g c = λ yes of.
     (c.in_ok-note_block.ensures.taken fault) (c.in_ok-note_block.ensures.told fault) in
     goes-there of laws run_laws taken runner told kept ended more ran new compared fit side c.own_runs.ensures.time later (one.spare - taken) tried_new c.note_ended.new.apart.items good_ended is
     (sym c.in_ok-ran.ensures.ticks.more)
-    (c.good_ended-ended.ensures of.place of.block of.rest of.beside.before_at of.beside.parts of.beside.behind_at) c.in_ok-note_ended.ensures going
+    (c.good_ended-ended.ensures of.place of.block of.rest of.beside.before_at of.beside.parts of.beside.behind_at) (subst (λ (l : List ProcId). NotesEnded one.apart.items c.note_ended.new.apart.items (map process_number l) good_ended) c.as_slice.ensures.value c.in_ok-note_ended.ensures) going
 
 pub returns-clause-fault : goal.returns-clause-fault
 returns-clause-fault g c = λ yes. c.in_ok-compare_beside.ensures.fault c.if-not-branch.false
