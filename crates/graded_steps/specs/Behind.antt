@@ -3,6 +3,7 @@ use Rattle.std.specs.Prelude.{ℕ, ◌+◌, ◌*◌, ◌≤◌, Option, Some, No
 use Rattle.v_design.specs.Designs.{FlatDesign, Machine, StuckAt, TestPlan, faulty_machine}
 use Rattle.v_design.specs.Grades.{FaultGrade, grade}
 use Rattle.fault_grade.specs.Ticks.{steps_by, grading_steps}
+pub use Rattle.slot_steps.specs.Rises.{RisesWithin}
 
 -- the process steps of the slots of a machine's first run up to a time, if there is one
 abbrev pub steps_up_to : Machine → Option ℕ → ℕ
@@ -18,10 +19,6 @@ steps_graded design plan fault now (Some found) = grading_steps design plan faul
 abbrev pub fault_steps : FlatDesign → TestPlan → StuckAt → ℕ
 fault_steps design plan fault = elim (grade design plan fault) [ None ↦ steps_by (faulty_machine design fault) plan.end | Some found ↦ grading_steps design plan fault found ]
 
--- a counter rose by no more than one number is above another
-abbrev pub RisesWithin : ℕ → ℕ → ℕ → ℕ → Type 0
-RisesWithin from to before after = after + from ≤ before + to
-
--- or by no more than twice that
+-- a counter rose by no more than twice what one number is above another
 abbrev pub RisesTwice : ℕ → ℕ → ℕ → ℕ → Type 0
 RisesTwice from to before after = after + 2 * from ≤ before + 2 * to

@@ -12,8 +12,8 @@ use Rattle.v_design.specs.Grades.{phases}
 use Rattle.v_design.specs.OwnSteps.{ProcessRun}
 use Rattle.v_design.specs.Runs.{happened, work_of}
 use Rattle.v_design.specs.WellFormed.{KeepsRules}
-use Rattle.graded_steps.specs.Behind.{RisesWithin}
-use Rattle.machine.specs.Ticks.{raised_by}
+use Rattle.slot_steps.specs.Rises.{RisesWithin}
+use Rattle.machine_events.specs.Steps.{raised_by}
 use Rattle.machine_laws.specs.SlotLoop.{Moment, ComesTo, after_events, first_lane, steps_of}
 use Rattle.copy_laws.specs.Moves.{ChangesOnly}
 use Rattle.copy_laws.specs.OwnRuns.{EventsTakeNoTime}

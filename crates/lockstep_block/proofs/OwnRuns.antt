@@ -12,7 +12,7 @@ use Rattle.v_design.specs.PhaseLogs.{is_step_of}
 use Rattle.v_design.specs.Processes.{Activity}
 use Rattle.v_design.specs.Runs.{happened, most_steps}
 use Rattle.v_design.specs.States.{State, TurnKind, PostponedTurn, UpdatesTurn, TimeTurn, Event, Step, LaneStep, Evaluation, NetUpdate, after, is_ready, process_at, source_at}
-use Rattle.machine.specs.Ticks.{event_steps, phase_steps, step_of, steps-cons}
+use Rattle.machine_events.specs.Steps.{event_steps, phase_steps, step_of, steps-cons}
 use Rattle.machine_laws.specs.SlotLoop.{Moment, ComesTo, EventsGoOn, after_event, after_events, present_phase, steps_of}
 use Rattle.copy_laws.specs.Beside.{AreFirst}
 use Rattle.copy_laws.specs.OwnRuns.{EventsTakeNoTime}

@@ -2,7 +2,7 @@
 
 ghost use Rattle.std.specs.Prelude.{◌≡◌, true, length, IfOk, OnOk};
 ghost use Rattle.v_design.specs.Plain.{fault_of};
-ghost use Rattle.graded_steps.specs.Behind.{RisesWithin};
+ghost use Rattle.slot_steps.specs.Rises.{RisesWithin};
 ghost use Rattle.faulty_block.specs.block_events.Runners.{state_of};
 ghost use Rattle.lockstep_steps.specs.lockstep_slots.Places.{behind_events};
 ghost use Rattle.lockstep_block.specs.Blocks.{FaultGoes, TriedInSlot};

@@ -12,7 +12,6 @@ pub use Rattle.lockstep_turn.specs.window_places as window_places
 pub use Rattle.lockstep_turn.specs.lockstep_copies as lockstep_copies
 pub use Rattle.lockstep_turn.specs.lockstep_slots as lockstep_slots
 pub use Rattle.lockstep_turn.specs.slot_steps as slot_steps
-pub use Rattle.lockstep_turn.specs.graded_steps as graded_steps
 pub use Rattle.lockstep_turn.specs.block_events as block_events
 pub use Rattle.lockstep_turn.specs.beside_phases as beside_phases
 pub use Rattle.lockstep_turn.specs.own_slots as own_slots

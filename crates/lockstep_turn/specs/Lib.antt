@@ -14,7 +14,6 @@ pub use Rattle.phase_faults.specs.window_places as window_places
 pub use Rattle.phase_faults.specs.lockstep_copies as lockstep_copies
 pub use Rattle.phase_faults.specs.lockstep_slots as lockstep_slots
 pub use Rattle.phase_faults.specs.slot_steps as slot_steps
-pub use Rattle.phase_faults.specs.graded_steps as graded_steps
 pub use Rattle.phase_faults.specs.block_events as block_events
 pub use Rattle.phase_faults.specs.beside_phases as beside_phases
 pub use Rattle.phase_faults.specs.own_slots as own_slots

@@ -4,9 +4,10 @@ use Rattle.std.specs.Prelude.{count_by, sum_by}
 use Rattle.std.proofs.lemmas.List.Sums.{sum_by-append, sum_by-cons}
 use Rattle.vf_base.specs.Counts.{raised}
 use Rattle.v_design.specs.States.{Event, Step, LaneStep, Evaluation, NetUpdate}
-use Rattle.v_design.specs.Runs.{Happens}
+use Rattle.v_design.specs.Runs.{FirstSlot, Happens}
+use Rattle.v_design.specs.Grades.{Phase}
 use Rattle.v_design.specs.OwnSteps.{is_process_step}
-use Rattle.machine_laws.specs.SlotLoop.{steps_of}
+use Rattle.machine_laws.specs.SlotLoop.{Moment, steps_of}
 
 -- a counter after so many ticks
 abbrev pub raised_by : ℕ → ℕ → ℕ
@@ -16,6 +17,18 @@ raised_by (suc count) before = raised (raised_by count before)
 -- the process steps among some events; steps of lanes and work on nodes are none
 abbrev pub event_steps : List Event → ℕ
 event_steps events = count_by (λ (event : Event). is_process_step (Happens event)) events
+
+-- those of a slot
+abbrev pub process_steps : FirstSlot → ℕ
+process_steps slot = count_by is_process_step slot.moves
+
+-- those of some phases
+abbrev pub phase_steps : List Phase → ℕ
+phase_steps phases = sum_by (λ (phase : Phase). event_steps phase.events) phases
+
+-- those of a slot so far, at a moment
+abbrev pub steps_so_far : Moment → ℕ
+steps_so_far at = phase_steps at.ended + event_steps at.events
 
 -- ticks on top of ticks
 pub raised-sum : (one more before : ℕ) → raised_by (one + more) before ≡ raised_by more (raised_by one before)

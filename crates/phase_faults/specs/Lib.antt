@@ -15,7 +15,6 @@ pub use Rattle.slot_laws.specs.window_places as window_places
 pub use Rattle.slot_laws.specs.lockstep_copies as lockstep_copies
 pub use Rattle.slot_laws.specs.lockstep_slots as lockstep_slots
 pub use Rattle.slot_laws.specs.slot_steps as slot_steps
-pub use Rattle.slot_laws.specs.graded_steps as graded_steps
 pub use Rattle.slot_laws.specs.block_events as block_events
 pub use Rattle.slot_laws.specs.beside_phases as beside_phases
 pub use Rattle.slot_laws.specs.own_slots as own_slots

@@ -16,5 +16,4 @@ pub use Rattle.lockstep_block.proofs.lockstep_filter as lockstep_filter
 pub use Rattle.lockstep_block.proofs.lockstep_notes as lockstep_notes
 pub use Rattle.lockstep_block.proofs.moment_laws as moment_laws
 pub use Rattle.lockstep_block.proofs.lockstep_slots as lockstep_slots
-pub use Rattle.lockstep_block.proofs.machine as machine
 pub use Rattle.lockstep_block.proofs.block_events as block_events

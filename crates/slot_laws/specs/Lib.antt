@@ -16,8 +16,6 @@ pub use Rattle.lockstep_block.specs.window_places as window_places
 pub use Rattle.lockstep_block.specs.lockstep_copies as lockstep_copies
 pub use Rattle.lockstep_block.specs.lockstep_slots as lockstep_slots
 pub use Rattle.lockstep_block.specs.slot_steps as slot_steps
-pub use Rattle.lockstep_block.specs.graded_steps as graded_steps
-pub use Rattle.lockstep_block.specs.machine as machine
 pub use Rattle.lockstep_block.specs.block_events as block_events
 pub use Rattle.lockstep_block.specs.window_wakes as window_wakes
 pub use Rattle.beside_phases.specs as beside_phases

@@ -11,7 +11,7 @@ use Rattle.v_design.specs.OwnSteps.{is_process_step}
 use Rattle.v_design.specs.WellFormed.{KeepsRules}
 use Rattle.copy_laws.specs.Beside.{AreFirst}
 use Rattle.machine_laws.specs.SlotLoop.{Moment, ComesTo, EndsAt, EventsGoOn, after_event, after_events, after_turn, first_moment, phases_so_far, present_phase, slot_from, steps_of}
-use Rattle.machine.specs.Ticks.{event_steps, phase_steps, process_steps, step_of, steps-cons, steps-few, steps_so_far}
+use Rattle.machine_events.specs.Steps.{event_steps, phase_steps, process_steps, step_of, steps-cons, steps-few, steps_so_far}
 
 -- Moments
 

@@ -1,4 +1,3 @@
-use Rattle.slot_steps.proofs.Runs.{slot-fine, slot-next}
 use Rattle.slot_steps.proofs.Slots.{so_far-begin, so_far-counted, so_far-ends, so_far-events, so_far-more, so_far-turn, so_far-within}
 use Rattle.slot_steps.proofs.slot_steps_go_on.Goals as goal
 
@@ -11,6 +10,4 @@ returns c = record {
   within = so_far-within;
   more = so_far-more c.stretches_go_on.ensures.event;
   ends = so_far-ends;
-  next = slot-next c.runs_take_steps.ensures;
-  fine = slot-fine c.runs_take_steps.ensures;
 }
