@@ -59,3 +59,7 @@ more-taken f xs place x low is = ap (map f) (take_more xs place x low ∙ ap (λ
 -- or all
 pub all-taken : {A B : Type 0} (f : A → B) (xs : List A) (place : ℕ) → length xs ≤ place → map f (take place xs) ≡ map f xs
 all-taken f xs place past = ap (map f) (take_all place xs past)
+
+-- told by its place
+pub next-taken : {A B : Type 0} (f : A → B) (xs : List A) (place : ℕ) (d : A) → place < length xs → map f (take (place + 1) xs) ≡ map f (take place xs) ++ f (get_or xs place d) ∷ []
+next-taken f xs place d low = ap (map f) (take_more xs place d low) ∙ map-append f (take place xs) (get_or xs place d ∷ [])

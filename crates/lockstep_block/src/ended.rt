@@ -1,7 +1,6 @@
 // The runs that ended in a block of both machines.
 
-ghost use Rattle.std.specs.Prelude.{◌≡◌, List, [], map, true, OnOk};
-ghost use Rattle.std.specs.Prelude.{◌++◌};
+ghost use Rattle.std.specs.Prelude.{◌≡◌, ◌+◌, ◌<◌, ◌++◌, List, [], map, true, OnOk};
 ghost use Rattle.vf_base.specs.Base.{process_number};
 ghost use Rattle.v_design.specs.Designs.{good_machine};
 ghost use Rattle.v_design.specs.States.{Event};
@@ -25,6 +24,7 @@ pub(crate) fn good_ended<'a, N: World>(
     behind: &GoodMoment<N>,
 ) -> &'a [RunEnd]
     requires shown { ArePlacesShown N.design N.plan window.now.before window.now.through before.now behind.now }
+    requires slot { window.now.before + before.now.slot < window.now.through }
     ensures { (place : Place) (block rest : List Event) → IsShownAt N.design N.plan place before.now → place.left ≡ block ++ rest →
         IsShownAt N.design N.plan (behind_events block rest place) behind.now → map run_process result.now ≡ enders_in (good_machine N.design) (state_there (good_machine N.design) place) block }
 {

@@ -1,5 +1,6 @@
 // The good machine's runs of the present phase.
 
+ghost use Rattle.std.specs.Prelude.{◌+◌, ◌<◌};
 ghost use Rattle.lockstep_block.specs.Runs.{IsGoodPhase, IsPlaceShown};
 ghost use Rattle.good_moment.specs.moment_laws.Places.{IsShownAt};
 ghost use Rattle.lockstep_steps.specs.lockstep_slots.Places.{Place};
@@ -17,6 +18,7 @@ pub(crate) fn good_phase<'a, N: World>(
     apart: &'a [RunApart],
 ) -> GoodPhase<'a>
     requires shown { IsPlaceShown N.design N.plan window.now.before window.now.through before.now }
+    requires slot { window.now.before + before.now.slot < window.now.through }
     ensures { (place : Place) → IsShownAt N.design N.plan place before.now → IsGoodPhase N.design place before.now apart.now result }
 {
     // The window has the phase, and so a number for the next one.

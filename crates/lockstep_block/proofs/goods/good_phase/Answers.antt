@@ -4,15 +4,6 @@ use Rattle.between_slots.specs.Between.{window_phases}
 use Rattle.lockstep_block.proofs.EndedRuns.{phase-at, phase-low}
 use Rattle.lockstep_block.proofs.goods.good_phase.Goals as goal
 
-pub phases_before-first-requires : goal.phases_before-first-requires
-phases_before-first-requires g c κs within =
-    let is = c.requires.shown in
-    let low = is.shown.within in
-    let from = is.within.before_is in
-    let to = is.within.through_is in
-    let slot = c.slot-slot.ensures in
-    omega (arith, low, from, to, slot)
-
 pub overflow_add-phase : goal.overflow_add-phase
 overflow_add-phase g c =
     let is = c.requires.shown in
@@ -22,8 +13,8 @@ overflow_add-phase g c =
     let fits : c.phase-phase.result + 1 ≤ c.phases-phases.result = omega (arith, low, all, phase) in
     omega (arith, fits)
 
-pub overflow_sub-phase : goal.overflow_sub-phase
-overflow_sub-phase g c =
+pub overflow_sub-result : goal.overflow_sub-result
+overflow_sub-result g c =
     let is = c.requires.shown in
     let at = is.shown.phase_is in
     let phase = c.phase-phase.ensures in
@@ -39,7 +30,7 @@ returns g c = λ place shown.
     record {
       tells = c.phase_runs.ensures c.args.before.now.phase place.phase (ap (λ n. n + 1) phase)
           (phase-at g.N.World.design g.N.World.plan c.args.window.now.before c.args.window.now.through place c.args.before.now is.within shown);
-      ran_is = c.as_slice-ran.ensures ∙ c.standing.ensures.ran;
+      ran_is = c.as_slice-ran.ensures.value ∙ c.standing.ensures.ran;
       apart_is = refl;
       phase_is = omega (arith, at, phase, first);
     }

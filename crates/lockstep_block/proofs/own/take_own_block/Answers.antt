@@ -1,7 +1,8 @@
 -- A block of its own, compared and noted.
-use Rattle.std.proofs.Common.{ℕ, ◌-◌, ◌≤◌, List, drop, length, map, refl, subst, sym, ◌∙◌, arith}
+use Rattle.std.proofs.Common.{ℕ, ◌+◌, ◌-◌, ◌<◌, ◌≤◌, List, drop, length, map, refl, subst, sym, ◌∙◌, arith}
 use Rattle.std.specs.Prelude.{IfSome, Option}
 use Rattle.vf_base.specs.Base.{process_number}
+use Rattle.vf_base.specs.declared.ids.ProcId.{ProcId}
 use Rattle.v_design.specs.Designs.{good_machine, faulty_machine}
 use Rattle.v_design.specs.OwnSteps.{ProcessRun}
 use Rattle.v_design.specs.Plain.{fault_of}
@@ -12,13 +13,23 @@ use Rattle.faulty_block.specs.block_runner.Beside.{TellsBeside}
 use Rattle.lockstep_steps.specs.lockstep_slots.Places.{state_there, behind_events}
 use Rattle.faulty_block.specs.Runs.{MayRun, RanBlock}
 use Rattle.faulty_block.specs.moment_shown.Shown.{Shows}
+use Rattle.run_numbers.specs.declared.numbers.RunApart.{RunApart}
 use Rattle.lockstep_block.specs.Beside.{acts_beside}
+use Rattle.lockstep_block.specs.Runs.{IsGoodPhase, NotesEnded}
 use Rattle.lockstep_block.proofs.OwnBlocks.{BlockLaws, goes-there, may-compare, may-run, noted-goes, ran-beside, spent, ticks-told, tried-there}
 use Rattle.lockstep_block.proofs.OwnRuns.{RunLaws, few-goods, goods, numbers, tells-goods}
 use Rattle.lockstep_block.proofs.own.take_own_block.Goals as goal
 
-pub good_phase-goods-requires : goal.good_phase-goods-requires
-good_phase-goods-requires g c κs within =
+pub good_phase-goods-requires-clause-slot : goal.good_phase-goods-requires-clause-slot
+good_phase-goods-requires-clause-slot g c κs within =
+    let run = c.requires.run in
+    let low = run.beside.before_at.within in
+    let from = run.within.before_is in
+    let to = run.within.through_is in
+    omega (arith, low, from, to)
+
+pub good_phase-goods-requires-clause-shown : goal.good_phase-goods-requires-clause-shown
+good_phase-goods-requires-clause-shown g c κs within =
     let run = c.requires.run in record { place = run.place; within = run.within; shown = run.beside.before_at }
 
 pub run_beside-requires-clause-whole : goal.run_beside-requires-clause-whole
@@ -45,7 +56,8 @@ run_beside-requires-clause-goods g c κs within =
     record {
       runs = goods run laws;
       numbers = numbers run laws;
-      tells = tells-goods run laws c.good_phase-goods.result (c.good_phase-goods.ensures run.place run.beside.before_at);
+      tells = tells-goods run laws c.good_phase-goods.result (subst (λ (l : List RunApart). IsGoodPhase g.N.World.design run.place c.args.room.now.before l c.good_phase-goods.result) c.deref.ensures.value
+          (c.good_phase-goods.ensures run.place run.beside.before_at));
     }
 
 pub run_beside-requires-clause-few : goal.run_beside-requires-clause-few
@@ -63,7 +75,8 @@ run_beside-requires-clause-few g c κs within =
       tried = c.tried_steps_go_on.ensures;
       event = c.stretches_go_on.ensures.event;
     } in
-    few-goods run laws c.good_phase-goods.result (c.good_phase-goods.ensures run.place run.beside.before_at)
+    few-goods run laws c.good_phase-goods.result (subst (λ (l : List RunApart). IsGoodPhase g.N.World.design run.place c.args.room.now.before l c.good_phase-goods.result) c.deref.ensures.value
+    (c.good_phase-goods.ensures run.place run.beside.before_at))
 
 pub returns-in_default-clause-room : goal.returns-in_default-clause-room
 returns-in_default-clause-room g c = record { before_is = refl; behind_is = refl; counts_is = refl; whole = c.in_ok-ran.ensures.whole; machine_is = c.in_ok-ran.ensures.machine }
@@ -87,7 +100,8 @@ returns-in_default-clause-most g c = λ of.
       event = c.stretches_go_on.ensures.event;
     } in
     tried-there of c.phases_fit.ensures c.lockstep_is_beside.ensures.beside c.writes_stay.ensures.stay run_laws kept c.run_beside.new.tried.items c.args.steps.now c.run_beside.new.steps
-    c.in_ok-ran.ensures.ticks (c.good_phase-goods.ensures of.place of.beside.before_at) c.in_ok-ran.ensures.most
+    c.in_ok-ran.ensures.ticks (subst (λ (l : List RunApart). IsGoodPhase g.N.World.design of.place c.args.room.now.before l c.good_phase-goods.result) c.deref.ensures.value
+    (c.good_phase-goods.ensures of.place of.beside.before_at)) c.in_ok-ran.ensures.most
 
 pub compare_beside-requires-clause-whole : goal.compare_beside-requires-clause-whole
 compare_beside-requires-clause-whole g c κs within = c.in_ok-ran.ensures.whole
@@ -120,13 +134,22 @@ returns-then-not-branch-clause-most g c = λ of.
       event = c.stretches_go_on.ensures.event;
     } in
     tried-there of c.phases_fit.ensures c.lockstep_is_beside.ensures.beside c.writes_stay.ensures.stay run_laws kept c.run_beside.new.tried.items c.args.steps.now c.run_beside.new.steps
-    c.in_ok-ran.ensures.ticks (c.good_phase-goods.ensures of.place of.beside.before_at) c.in_ok-ran.ensures.most
+    c.in_ok-ran.ensures.ticks (subst (λ (l : List RunApart). IsGoodPhase g.N.World.design of.place c.args.room.now.before l c.good_phase-goods.result) c.deref.ensures.value
+    (c.good_phase-goods.ensures of.place of.beside.before_at)) c.in_ok-ran.ensures.most
 
 pub note_block-requires-after_bounds : goal.note_block-requires-after_bounds
 note_block-requires-after_bounds g c κs within = c.show-good.ensures.design
 
-pub good_ended-ended-requires : goal.good_ended-ended-requires
-good_ended-ended-requires g c κs within =
+pub good_ended-ended-requires-clause-slot : goal.good_ended-ended-requires-clause-slot
+good_ended-ended-requires-clause-slot g c κs within =
+    let run = c.requires.run in
+    let low = run.beside.before_at.within in
+    let from = run.within.before_is in
+    let to = run.within.through_is in
+    omega (arith, low, from, to)
+
+pub good_ended-ended-requires-clause-shown : goal.good_ended-ended-requires-clause-shown
+good_ended-ended-requires-clause-shown g c κs within =
     let run = c.requires.run in
     record {
       place = run.place;
@@ -182,7 +205,8 @@ returns-clause-took g c = λ yes of.
       tried = c.tried_steps_go_on.ensures;
       event = c.stretches_go_on.ensures.event;
     } in
-    let is = c.good_phase-goods.ensures of.place of.beside.before_at in
+    let is = subst (λ (l : List RunApart). IsGoodPhase g.N.World.design of.place c.args.room.now.before l c.good_phase-goods.result) c.deref.ensures.value
+    (c.good_phase-goods.ensures of.place of.beside.before_at) in
     let beside = tells-goods of run_laws kept is in
     let ran = ran-beside of fit side c.writes_stay.ensures.stay taken runner told (goods of run_laws) (numbers of run_laws) kept.phase ended more
     (λ run.
@@ -198,7 +222,7 @@ returns-clause-took g c = λ yes of.
     (c.in_ok-note_block.ensures.taken fault) (c.in_ok-note_block.ensures.told fault) in
     goes-there of laws run_laws taken runner told kept ended more ran new compared fit side c.own_runs.ensures.time later (one.spare - taken) tried_new c.note_ended.new.apart.items good_ended is
     (sym c.in_ok-ran.ensures.ticks.more)
-    (c.good_ended-ended.ensures of.place of.block of.rest of.beside.before_at of.beside.parts of.beside.behind_at) c.in_ok-note_ended.ensures going
+    (c.good_ended-ended.ensures of.place of.block of.rest of.beside.before_at of.beside.parts of.beside.behind_at) (subst (λ (l : List ProcId). NotesEnded one.apart.items c.note_ended.new.apart.items (map process_number l) good_ended) c.as_slice.ensures.value c.in_ok-note_ended.ensures) going
 
 pub returns-clause-fault : goal.returns-clause-fault
 returns-clause-fault g c = λ yes. c.in_ok-compare_beside.ensures.fault c.if-not-branch.false
@@ -228,4 +252,5 @@ returns-clause-most g c = λ of.
       event = c.stretches_go_on.ensures.event;
     } in
     tried-there of c.phases_fit.ensures c.lockstep_is_beside.ensures.beside c.writes_stay.ensures.stay run_laws kept c.run_beside.new.tried.items c.args.steps.now c.run_beside.new.steps
-    c.in_ok-ran.ensures.ticks (c.good_phase-goods.ensures of.place of.beside.before_at) c.in_ok-ran.ensures.most
+    c.in_ok-ran.ensures.ticks (subst (λ (l : List RunApart). IsGoodPhase g.N.World.design of.place c.args.room.now.before l c.good_phase-goods.result) c.deref.ensures.value
+    (c.good_phase-goods.ensures of.place of.beside.before_at)) c.in_ok-ran.ensures.most
