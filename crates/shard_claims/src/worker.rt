@@ -62,7 +62,7 @@ fn work_in<'d, N: World, G: Gate, L: Ledger>(
 }
 
 /// Takes a worker through a round: it claims shards until none is left, where it hasn't done so yet, and its shards go through the round's window. `steps`
-/// ticks once for each process step that its faulty machines take.
+/// ticks at most once for each own step of its faults in between.
 ///
 /// # Errors
 ///
