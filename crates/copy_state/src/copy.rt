@@ -7,11 +7,12 @@ ghost use Rattle.v_design.specs.States.{found_or};
 ghost use Rattle.copy_laws.specs.Differences.{own_of, Ascend};
 ghost use Rattle.copy_state.specs.Copied.{KeepsSame};
 ghost use Rattle.copy_state.specs.Entries.{with_entry, without_entry, first_from};
+ghost use Rattle.copy_state.specs.Listed.{entry_of, numbers_of};
 ghost use Rattle.copy_state.specs.Kept.{nothing_kept, with_own_value, StandsIn};
 
 use crate::by_object::ByObject;
 use crate::by_process::{ByProcess, copied_states, copied_updates};
-use crate::entry::HeldValue;
+use crate::entry::{Entry, HeldValue};
 use four_value::Vec4;
 use process_code::ProcState;
 use std::alloc::Global;
@@ -100,6 +101,13 @@ impl FaultCopy {
         self.values.next_held(from.0, hint)
     }
 
+    /// The own values in the order of their objects, where they are a list: up to a number of them they are.
+    pub fn listed(&self) -> Option<&[Entry<Vec4>]>
+        ensures { IfSome result (λ listed. map entry_of listed.now ≡ self.now.values) }
+    {
+        self.values.listed()
+    }
+
     /// How many objects differ.
     pub fn size(&self) -> usize
         ensures { result ≡ length self.now.values }
@@ -178,6 +186,13 @@ impl FaultCopy {
         ensures { option_map process_number result ≡ first_from (process_number from) self.now.updates }
     {
         self.updates.next(from)
+    }
+
+    /// The updates that are kept, in the order of their processes.
+    pub fn listed_updates(&self) -> &[Entry<Seq<Due>>]
+        ensures { numbers_of result.now ≡ map (λ kept. kept.0) self.now.updates }
+    {
+        self.updates.listed()
     }
 
     /// The copy keeps these as a process's updates, in order.

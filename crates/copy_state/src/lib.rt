@@ -16,4 +16,4 @@ mod value_table;
 
 pub use by_process::ByProcess;
 pub use copy::FaultCopy;
-pub use entry::HeldValue;
+pub use entry::{Entry, HeldValue};

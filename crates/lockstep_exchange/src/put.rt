@@ -14,9 +14,18 @@ ghost use Rattle.lockstep_exchange.specs.Putting.{KeptFits, ValuesArePut, Writes
 ghost use Rattle.lockstep_exchange.specs.Exchange.{ArePutFor, MayPutIn, acts_among};
 
 use block_events::Runner;
+use copy_state::Entry;
+use four_value::Vec4;
 use lockstep_copy::LockstepCopy;
 use v_design::{Fault, Update};
 use vf_base::{NoMemory, ObjectId, ProcId};
+
+/// Each of some objects comes to hold its value.
+fn put_listed(runner: &mut Runner, listed: &[Entry<Vec4>]) {
+    'objects: for own in listed {
+        runner.put_value(ObjectId(own.number), own.kept);
+    }
+}
 
 /// Each object of which a value is kept comes to hold it.
 fn put_values(runner: &mut Runner, own: &LockstepCopy)
@@ -27,6 +36,10 @@ fn put_values(runner: &mut Runner, own: &LockstepCopy)
     ensures whole { IsWhole runner.new }
 {
     own.copy.ascending();
+    if let Some(listed) = own.copy.listed() {
+        put_listed(runner, listed);
+        return;
+    }
     let mut next = own.copy.next_held(ObjectId(0), 0);
     'objects: while let Some(held) = next {
         runner.put_value(held.object, held.value);

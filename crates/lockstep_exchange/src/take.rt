@@ -7,8 +7,18 @@ ghost use Rattle.lockstep_exchange.specs.Exchange.{MayTakeOut};
 
 use crate::shown::ShownState;
 use block_events::Runner;
+use copy_state::Entry;
+use four_value::Vec4;
 use lockstep_copy::LockstepCopy;
 use vf_base::ObjectId;
+
+/// Each of some objects comes to hold what is shown.
+fn restore_listed<S: ShownState>(runner: &mut Runner, good: &S, listed: &[Entry<Vec4>]) {
+    'objects: for own in listed {
+        let object = ObjectId(own.number);
+        runner.put_value(object, good.value(object));
+    }
+}
 
 /// Each object of which a value is kept comes to hold what is shown.
 fn restore_values<S: ShownState>(runner: &mut Runner, good: &S, own: &LockstepCopy)
@@ -20,6 +30,10 @@ fn restore_values<S: ShownState>(runner: &mut Runner, good: &S, own: &LockstepCo
     ensures whole { IsWhole runner.new }
 {
     own.copy.ascending();
+    if let Some(listed) = own.copy.listed() {
+        restore_listed(runner, good, listed);
+        return;
+    }
     let mut next = own.copy.next_held(ObjectId(0), 0);
     'objects: while let Some(held) = next {
         runner.put_value(held.object, good.value(held.object));

@@ -13,7 +13,7 @@ use crate::search::{object_limit, step_limit};
 use crate::stretch::{Stretch, has_moment};
 use crate::table::{TouchTable, take_up};
 use copy_skip::site_limit;
-use copy_state::FaultCopy;
+use copy_state::{Entry, FaultCopy};
 use good_trace::{Setup, TraceWindow};
 use v_design::{Fault, World};
 use vf_base::{ObjectId, ProcId};
@@ -41,6 +41,23 @@ fn object_until<N: World>(
     until
 }
 
+/// The same of some objects, of each of which something is listed.
+fn listed_limit<N: World, T>(
+    setup: &Setup<'_, N>,
+    window: &TraceWindow<N>,
+    objects: &mut Vec<Stretch>,
+    listed: &[Entry<T>],
+    first: u32,
+    limit: u32,
+) -> u32 {
+    let mut least = limit;
+    'objects: for own in listed {
+        let until = object_until(setup, window, objects, ObjectId(own.number), first);
+        least = least.min(until);
+    }
+    least
+}
+
 /// The limit, or a lesser moment, before which all events from a first one on leave all objects alone of which a copy keeps a value.
 fn values_limit<N: World>(
     setup: &Setup<'_, N>,
@@ -58,6 +75,9 @@ fn values_limit<N: World>(
 {
     copy.ascending();
     let design = setup.design();
+    if let Some(listed) = copy.listed() {
+        return listed_limit(setup, window, objects, listed, first, limit);
+    }
     let mut least = limit;
     let mut next = copy.next_held(ObjectId(0), 0);
     'objects: while let Some(held) = next {
@@ -108,11 +128,9 @@ fn updates_limit<N: World>(
     copy.ascending();
     let design = setup.design();
     let mut least = limit;
-    let mut next = copy.next_updates(ProcId(0));
-    'processes: while let Some(process) = next {
-        let until = step_until(window, processes, process, first);
+    'processes: for own in copy.listed_updates() {
+        let until = step_until(window, processes, ProcId(own.number), first);
         least = least.min(until);
-        next = copy.next_updates(ProcId(process.0 + 1));
     }
     least
 }
