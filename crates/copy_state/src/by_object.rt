@@ -16,7 +16,7 @@ use std::marker::Model;
 use vf_base::NoMemory;
 
 /// How many values stand in a list before they go into a table.
-const MOST_LISTED: usize = 256;
+const MOST_LISTED: usize = 1024;
 
 /// A list of values, or a table of them by object.
 #[derive(Drop)]
@@ -120,7 +120,7 @@ impl ByObject {
         }
     }
 
-    /// The values in their order, where they are a list.
+    /// All values in ascending order, where they are held as a list.
     pub(crate) fn listed(&self) -> Option<&[Entry<Vec4>]>
         ensures { IfSome result (λ listed. map entry_of listed.now ≡ self.now) }
     {

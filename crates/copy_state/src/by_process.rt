@@ -96,13 +96,6 @@ impl<T: Drop> ByProcess<T> {
         self.entries.clear();
     }
 
-    /// What is kept, in the order of the processes.
-    pub fn listed(&self) -> &[Entry<T>]
-        ensures { map entry_of result.now ≡ self.now }
-    {
-        self.entries.as_slice()
-    }
-
     /// The first process that isn't before one and of which something is kept.
     pub fn next(&self, from: ProcId) -> Option<ProcId>
         ensures { option_map process_number result ≡ first_from (process_number from) self.now }

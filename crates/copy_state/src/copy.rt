@@ -7,7 +7,7 @@ ghost use Rattle.v_design.specs.States.{found_or};
 ghost use Rattle.copy_laws.specs.Differences.{own_of, Ascend};
 ghost use Rattle.copy_state.specs.Copied.{KeepsSame};
 ghost use Rattle.copy_state.specs.Entries.{with_entry, without_entry, first_from};
-ghost use Rattle.copy_state.specs.Listed.{entry_of, numbers_of};
+ghost use Rattle.copy_state.specs.Listed.{entry_of};
 ghost use Rattle.copy_state.specs.Kept.{nothing_kept, with_own_value, StandsIn};
 
 use crate::by_object::ByObject;
@@ -101,7 +101,7 @@ impl FaultCopy {
         self.values.next_held(from.0, hint)
     }
 
-    /// The own values in the order of their objects, where they are a list: up to a number of them they are.
+    /// All own values, each with its object's number, in ascending order: where they are held as a list. Many are held as a table, which isn't one.
     pub fn listed(&self) -> Option<&[Entry<Vec4>]>
         ensures { IfSome result (λ listed. map entry_of listed.now ≡ self.now.values) }
     {
@@ -186,13 +186,6 @@ impl FaultCopy {
         ensures { option_map process_number result ≡ first_from (process_number from) self.now.updates }
     {
         self.updates.next(from)
-    }
-
-    /// The updates that are kept, in the order of their processes.
-    pub fn listed_updates(&self) -> &[Entry<Seq<Due>>]
-        ensures { numbers_of result.now ≡ map (λ kept. kept.0) self.now.updates }
-    {
-        self.updates.listed()
     }
 
     /// The copy keeps these as a process's updates, in order.

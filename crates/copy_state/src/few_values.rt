@@ -4,8 +4,8 @@ ghost use Rattle.std.specs.Prelude.{◌≡◌, [], Some, map, length, option_map
 ghost use Rattle.vf_base.specs.Base.{object_number};
 ghost use Rattle.v_design.specs.States.{found_or};
 ghost use Rattle.copy_laws.specs.Differences.{own_of, Ascend};
-ghost use Rattle.copy_state.specs.Entries.{Rise, with_entry, without_entry, first_from};
-ghost use Rattle.copy_state.specs.Listed.{entry_of, numbers_of};
+ghost use Rattle.copy_state.specs.Entries.{with_entry, without_entry, first_from};
+ghost use Rattle.copy_state.specs.Listed.{entry_of};
 
 use crate::entry::{Entry, HeldValue};
 use crate::find::{count_before, count_near, find};
@@ -117,10 +117,9 @@ impl FewValues {
         None
     }
 
-    /// The values in their order.
+    /// All values in ascending order.
     pub(crate) fn listed(&self) -> &[Entry<Vec4>]
-        ensures values { map entry_of result.now ≡ self.now }
-        ensures rise { Rise (numbers_of result.now) }
+        ensures { map entry_of result.now ≡ self.now }
     {
         self.values.as_slice()
     }

@@ -1,8 +1,10 @@
 // Moments before which no event touches a copy, by what is remembered.
 
-ghost use Rattle.std.specs.Prelude.{◌<◌, ◌≤◌, length};
+ghost use Rattle.std.specs.Prelude.{◌<◌, ◌≤◌, length, map};
 ghost use Rattle.vf_base.specs.Base.{object_number, process_number};
 ghost use Rattle.v_design.specs.Plain.{site_of};
+ghost use Rattle.copy_laws.specs.Differences.{Ascend};
+ghost use Rattle.copy_state.specs.Listed.{entry_of};
 ghost use Rattle.trace_window.specs.Acted.{stepped_at};
 ghost use Rattle.trace_window.specs.Moments.{window_events};
 ghost use Rattle.block_skip.specs.Blocks.{AreProcesses, LeftAlone, StepsLeftAlone};
@@ -14,11 +16,14 @@ use crate::stretch::{Stretch, has_moment};
 use crate::table::{TouchTable, take_up};
 use copy_skip::site_limit;
 use copy_state::{Entry, FaultCopy};
+use four_value::Vec4;
 use good_trace::{Setup, TraceWindow};
 use v_design::{Fault, World};
 use vf_base::{ObjectId, ProcId};
 
 /// A moment up to which all events of a window from another on leave an object alone; it is remembered.
+// The loops over what is kept call it for each value, and most are remembered.
+#[inline(always)]
 fn object_until<N: World>(
     setup: &Setup<'_, N>,
     window: &TraceWindow<N>,
@@ -41,19 +46,53 @@ fn object_until<N: World>(
     until
 }
 
-/// The same of some objects, of each of which something is listed.
-fn listed_limit<N: World, T>(
+/// The limit, or a lesser moment, before which all events from a first one on leave all objects alone of which a value is listed.
+fn listed_limit<N: World>(
     setup: &Setup<'_, N>,
     window: &TraceWindow<N>,
     objects: &mut Vec<Stretch>,
-    listed: &[Entry<T>],
+    listed: &[Entry<Vec4>],
     first: u32,
     limit: u32,
-) -> u32 {
+) -> u32
+    requires there { AreThere N.design (map entry_of listed.now) }
+    requires ascend { Ascend (map entry_of listed.now) }
+    requires known { AreLeftBy N.design (window_events N.design N.plan window.now.before window.now.through) objects.old.items }
+    ensures low { result ≤ limit }
+    ensures alone { AreLeftAlone N.design (window_events N.design N.plan window.now.before window.now.through) (map entry_of listed.now) (length N.design.objects) first result }
+    ensures known { AreLeftBy N.design (window_events N.design N.plan window.now.before window.now.through) objects.new.items }
+{
     let mut least = limit;
     'objects: for own in listed {
         let until = object_until(setup, window, objects, ObjectId(own.number), first);
         least = least.min(until);
+    }
+    least
+}
+
+/// The same of all objects of which a copy keeps a value, as one after the other is found.
+fn found_limit<N: World>(
+    setup: &Setup<'_, N>,
+    window: &TraceWindow<N>,
+    objects: &mut Vec<Stretch>,
+    copy: &FaultCopy,
+    first: u32,
+    limit: u32,
+) -> u32
+    requires there { AreThere N.design copy.now.values }
+    requires known { AreLeftBy N.design (window_events N.design N.plan window.now.before window.now.through) objects.old.items }
+    ensures low { result ≤ limit }
+    ensures alone { AreLeftAlone N.design (window_events N.design N.plan window.now.before window.now.through) copy.now.values (length N.design.objects) first result }
+    ensures known { AreLeftBy N.design (window_events N.design N.plan window.now.before window.now.through) objects.new.items }
+{
+    copy.ascending();
+    let design = setup.design();
+    let mut least = limit;
+    let mut next = copy.next_held(ObjectId(0), 0);
+    'objects: while let Some(held) = next {
+        let until = object_until(setup, window, objects, held.object, first);
+        least = least.min(until);
+        next = copy.next_held(ObjectId(held.object.0 + 1), held.hint);
     }
     least
 }
@@ -74,18 +113,10 @@ fn values_limit<N: World>(
     ensures known { AreLeftBy N.design (window_events N.design N.plan window.now.before window.now.through) objects.new.items }
 {
     copy.ascending();
-    let design = setup.design();
-    if let Some(listed) = copy.listed() {
-        return listed_limit(setup, window, objects, listed, first, limit);
+    match copy.listed() {
+        Some(listed) => listed_limit(setup, window, objects, listed, first, limit),
+        None => found_limit(setup, window, objects, copy, first, limit),
     }
-    let mut least = limit;
-    let mut next = copy.next_held(ObjectId(0), 0);
-    'objects: while let Some(held) = next {
-        let until = object_until(setup, window, objects, held.object, first);
-        least = least.min(until);
-        next = copy.next_held(ObjectId(held.object.0 + 1), held.hint);
-    }
-    least
 }
 
 /// A moment up to which neither a process nor its lane takes a step from another on; it is remembered.
@@ -128,9 +159,11 @@ fn updates_limit<N: World>(
     copy.ascending();
     let design = setup.design();
     let mut least = limit;
-    'processes: for own in copy.listed_updates() {
-        let until = step_until(window, processes, ProcId(own.number), first);
+    let mut next = copy.next_updates(ProcId(0));
+    'processes: while let Some(process) = next {
+        let until = step_until(window, processes, process, first);
         least = least.min(until);
+        next = copy.next_updates(ProcId(process.0 + 1));
     }
     least
 }
