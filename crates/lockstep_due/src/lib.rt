@@ -10,6 +10,6 @@ mod due;
 pub use copy_skip::{next_touched, searches_begin};
 pub use due::may_go;
 pub use lockstep_shards::{
-    Machine, ShardFault, WindowStrobes, begin_fault, copies_go_in_lockstep, empty_log,
-    gradings_take_steps, new_fault, new_room, runs_take_steps, shards_go_in_lockstep, strobes_of,
+    Machine, ShardFault, WindowStrobes, begin_fault, copies_go_in_lockstep, empty_log, new_fault,
+    new_room, runs_take_steps, shards_go_in_lockstep, strobes_of,
 };

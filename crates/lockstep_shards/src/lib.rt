@@ -9,8 +9,8 @@
 ghost use Rattle.lockstep_shards.specs.Shards.{ShardsGoInLockstep};
 
 pub use copy_window::{
-    ShardFault, WindowStrobes, begin_fault, empty_log, good_bits, gradings_take_steps, new_fault,
-    new_room, resume_fault, runs_take_steps, strobes_after, strobes_of,
+    ShardFault, WindowStrobes, begin_fault, empty_log, good_bits, new_fault, new_room,
+    resume_fault, runs_take_steps, strobes_after, strobes_of,
 };
 pub use lockstep_copies::copies_go_in_lockstep;
 pub use run_stands::Machine;

@@ -18,8 +18,6 @@ mod slot;
 pub use before::strobes_before;
 pub use copy_pass::{is_unseen, pass_over};
 pub use count::strobes_by;
-pub use lockstep_shards::{
-    Machine, ShardFault, WindowStrobes, gradings_take_steps, resume_fault, strobes_after,
-};
+pub use lockstep_shards::{Machine, ShardFault, WindowStrobes, resume_fault, strobes_after};
 pub use seen::{Judged, Seen, judge_to, see_to};
 pub use slot::strobes_of_slot;
