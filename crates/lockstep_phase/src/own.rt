@@ -6,7 +6,7 @@ ghost use Rattle.trace_window.specs.Moments.{window_events};
 ghost use Rattle.lockstep_turn.specs.lockstep_block.Own.{MayRunOwn};
 ghost use Rattle.lockstep_turn.specs.lockstep_block.Rooms.{MayStandThere};
 ghost use Rattle.lockstep_turn.specs.lockstep_room.Rooms.{AreCounts};
-ghost use Rattle.lockstep_turn.specs.slot_steps.Rises.{RisesWithin};
+ghost use Rattle.slot_steps.specs.Rises.{RisesWithin};
 ghost use Rattle.lockstep_turn.specs.slot_laws.Slots.{AreOfOneWindow};
 ghost use Rattle.lockstep_turn.specs.phase_faults.Beside.{FaultsMayGo, HasSite, HaveGoneOn, RoomWaits, TakesOwn, stop_of, ticked_of};
 

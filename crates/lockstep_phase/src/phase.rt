@@ -4,7 +4,7 @@ ghost use Rattle.std.specs.Prelude.{◌≡◌, ◌<◌, ◌≤◌, ℕ, length, 
 ghost use Rattle.std.specs.List.{AllZip};
 ghost use Rattle.vf_base.specs.Lists.{AllHold};
 ghost use Rattle.lockstep_turn.specs.lockstep_room.Rooms.{AreCounts};
-ghost use Rattle.lockstep_turn.specs.slot_steps.Rises.{RisesWithin};
+ghost use Rattle.slot_steps.specs.Rises.{RisesWithin};
 ghost use Rattle.lockstep_turn.specs.lockstep_slots.Places.{Place};
 ghost use Rattle.lockstep_turn.specs.slot_laws.Slots.{AreOfOneWindow, IsRoomIn, further};
 ghost use Rattle.lockstep_turn.specs.phase_faults.Beside.{ComesThroughPhase, FaultsMayGo, HasSite, HaveGoneOn, IsRoomSomewhere, MayGoOnIf, stop_of, ticked_of};

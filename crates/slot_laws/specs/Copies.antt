@@ -6,7 +6,7 @@ use Rattle.v_design.specs.Grades.{Fine, slot_outcome}
 use Rattle.copy_laws.specs.Differences.{Differences}
 use Rattle.copy_laws.specs.Windows.{good_slots}
 use Rattle.copy_state.specs.Kept.{CopyKept}
-use Rattle.lockstep_block.specs.lockstep_copies.Copies.{IsCopyInLockstep}
+use Rattle.beside_phases.specs.lockstep_copies.Copies.{IsCopyInLockstep}
 
 -- the differences that a copy of values and updates keeps
 abbrev pub lockstep_differences : CopyKept → Differences

@@ -1,7 +1,7 @@
 -- So far the first faults took theirs, and the room waits before the block.
 use Rattle.std.proofs.Common.{◌≡◌, map}
 use Rattle.std.specs.List.{sum_by}
-use Rattle.lockstep_turn.specs.slot_steps.Rises.{RisesWithin}
+use Rattle.slot_steps.specs.Rises.{RisesWithin}
 use Rattle.lockstep_turn.specs.phase_faults.Beside.{RoomWaits, TakesOwn, stop_of, ticked_of}
 use Rattle.lockstep_turn.proofs.phase_faults.Lists.{ChangedTo}
 use Rattle.lockstep_phase.proofs.own.take_block.Given as goal

@@ -1,7 +1,7 @@
 -- So far room and faults have gone on.
 use Rattle.std.proofs.Common.{◌≡◌, ◌-◌, map}
 use Rattle.std.specs.List.{sum_by}
-use Rattle.lockstep_turn.specs.slot_steps.Rises.{RisesWithin}
+use Rattle.slot_steps.specs.Rises.{RisesWithin}
 use Rattle.lockstep_turn.specs.phase_faults.Beside.{HaveGoneOn, stop_of, ticked_of}
 use Rattle.lockstep_phase.proofs.phase.go_to_end.Given as goal
 
