@@ -14,8 +14,7 @@ use crate::own::take_block;
 use crate::pass::pass_until;
 use good_trace::Setup;
 use lockstep_turn::{
-    FaultBeside, LockstepRoom, LockstepWindow, NextTouches, least_stop, look_ahead_all,
-    stops_of,
+    FaultBeside, LockstepRoom, LockstepWindow, NextTouches, least_stop, look_ahead_all, stops_of,
 };
 use std::alloc::Global;
 use std::sync::ledger::Ledger;

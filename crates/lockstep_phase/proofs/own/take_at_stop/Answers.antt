@@ -27,3 +27,9 @@ pub returns-then-moment-at-clause-room : goal.returns-then-moment-at-clause-room
 returns-then-moment-at-clause-room g c =
     let room = c.args.room.now in
     waits-first g.N.World.design g.N.World.plan c.args.time room.runner room.before room.behind room.counts
+
+pub returns-clause-own : goal.returns-clause-own
+returns-clause-own g c = c.in_ok-take_own.ensures.own
+
+pub returns-clause-room : goal.returns-clause-room
+returns-clause-room g c = c.in_ok-take_own.ensures.room

@@ -149,3 +149,12 @@ returns-clause-more g c =
 
 pub returns-then-least-end-clause-ticks : goal.returns-then-least-end-clause-ticks
 returns-then-least-end-clause-ticks g c = c.in_ok-take_block.ensures.ticks
+
+pub take_block-requires-clause-stops : goal.take_block-requires-clause-stops
+take_block-requires-clause-stops g c κs within = c.requires.stops
+
+pub returns-then-least-end-clause-stops : goal.returns-then-least-end-clause-stops
+returns-then-least-end-clause-stops g c = c.in_ok-take_block.ensures.stops
+
+pub returns-clause-stops : goal.returns-clause-stops
+returns-clause-stops g c = c.requires.stops
