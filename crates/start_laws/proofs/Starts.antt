@@ -1,22 +1,25 @@
 -- The first slot begins in lockstep, and ends.
 use Rattle.std.proofs.Common.{◌≡◌, ℕ, suc, ◌+◌, ◌<◌, ◌≤◌, List, [], ◌∷◌, length, refl, sym, ap, subst, ◌∙◌, arith}
-use Rattle.std.specs.Prelude.{Option, Some, None, slice_get}
+use Rattle.std.specs.Prelude.{◌≢◌, Option, Some, None, slice_get}
 use Rattle.v_design.specs.Designs.{FlatDesign, Machine, StuckAt, TestPlan, good_machine, faulty_machine}
 use Rattle.v_design.specs.States.{State, start}
 use Rattle.v_design.specs.Runs.{FirstSlot, first_run, most_steps, next_slot, slot_end}
-use Rattle.v_design.specs.Grades.{Phase, Fine, phases, slot_outcome, first_stop}
+use Rattle.v_design.specs.Grades.{Phase, SlotOutcome, Fine, Race, Hyper, Stop, phases, slot_outcome, first_stop}
 use Rattle.v_design.specs.Laws.{PhasesBegin}
 use Rattle.v_design.specs.WellFormed.{KeepsRules}
 use Rattle.order_laws.specs.FirstRuns.{FirstRunsGoOn, Follow}
 use Rattle.machine_laws.specs.SlotLoop.{Moment, first_moment, slot_from}
 use Rattle.copy_laws.specs.Differences.{Differences, StandsFor, KeepsNothingEqual}
+use Rattle.copy_laws.specs.OwnRuns.{EventsTakeNoTime}
 use Rattle.copy_laws.specs.Windows.{good_slots, state_at}
 use Rattle.between_slots.proofs.Leading.{through-get}
 use Rattle.between_slots.specs.Between.{state_through}
 use Rattle.grade_laws.specs.Ahead.{StopsAfter}
+use Rattle.grade_laws.specs.Grading.{faulty_stop}
 use Rattle.beside_laws.specs.GoodRuns.{GoodRunGoesOn}
-use Rattle.beside_laws.specs.Stands.{RunsGoOn}
+use Rattle.beside_laws.specs.Stands.{HasRun, RunsGoOn}
 use Rattle.quiet_slots.specs.FirstSlots.{FirstSlotsStand}
+use Rattle.quiet_slots.specs.SlotTimes.{slot-time}
 use Rattle.phase_order.specs.Order.{PhasesFollow}
 use Rattle.race_laws.specs.Writes.{WritesStay}
 use Rattle.trace_window.specs.Moments.{window_events}
@@ -52,6 +55,7 @@ pub record StartLaws : Type 0 where
   pub phases : PhasesFollow
   pub first : FirstSlotsStand
   pub writes : WritesStay
+  pub event_times : EventsTakeNoTime
 
 -- The beginning
 
@@ -160,6 +164,42 @@ ends laws design plan fault new slot own kept rules here fine e listed = record 
     stops : StandsFor new (slot_end (good_machine design) slot) own.state × MayGoInLockstep new (slot_end (good_machine design) slot)
     stops = laws.stops (kept_within kept (slot_end (good_machine design) slot)) new (slot_end (good_machine design) slot) own.state e.lockstep lists.0
 
+-- The faulty machine's time
+
+module _ (laws : StartLaws) (design : FlatDesign) (plan : TestPlan) (fault : StuckAt) (slot : FirstSlot) (new : Differences) (here : slice_get (good_slots design plan) 0 ≡ Some slot)
+    (after : IsCopyInLockstep design plan fault 0 slot.begins.time new) where
+  abbrev machine : Machine
+  machine = faulty_machine design fault
+
+  run : HasRun machine plan.end None (Some (start machine)) (start machine)
+  run = laws.runs.begins machine plan.end after.rules
+
+  time-is : slot.begins.time ≡ 0
+  time-is = laws.good.first design plan slot after.rules here
+
+  never : slot_outcome machine (slot_from machine (start machine)) ≢ Fine → ⊥
+  never other =
+      let stop : faulty_stop design plan fault ≡ Some (record { time = 0; outcome = slot_outcome machine (slot_from machine (start machine)) }) =
+      laws.runs.stops machine plan.end None (start machine) (start machine) run other in
+      let later : slot.begins.time < 0 = subst (λ (stop : Option Stop). StopsAfter slot.begins.time stop) stop after.own_on in
+      omega (arith, later)
+
+  fine : slot_outcome machine (slot_from machine (start machine)) ≡ Fine
+  fine = go (slot_outcome machine (slot_from machine (start machine))) refl
+    where
+      go : (outcome : SlotOutcome) → slot_outcome machine (slot_from machine (start machine)) ≡ outcome → slot_outcome machine (slot_from machine (start machine)) ≡ Fine
+      go Fine e = e
+      go (Race pair) e = absurd (never (λ f. (let no : Race pair ≡ Fine = sym e ∙ f in cc)))
+      go Hyper e = absurd (never (λ f. (let no : Hyper ≡ Fine = sym e ∙ f in cc)))
+
+  on-time : (state_at machine plan.end slot.begins.time).time ≡ slot.begins.time
+  on-time =
+      ap (λ t. (state_at machine plan.end t).time) time-is
+      ∙ ap (λ (s : State). s.time)
+      (laws.runs.stands machine plan.end 0 (next_slot machine plan.end (slot_from machine (start machine))) (slot_end machine (slot_from machine (start machine)))
+      (laws.runs.fine machine plan.end None (start machine) (start machine) run fine)).0
+      ∙ slot-time laws.event_times machine (start machine) ∙ sym time-is
+
 pub first_slot_goes_on : StartLaws → FirstSlotGoesOn
 first_slot_goes_on laws = record {
   begins = begins laws;
@@ -167,4 +207,5 @@ first_slot_goes_on laws = record {
   ends = λ design plan fault from until moment new slot place own pairs notes kept spare here fine g none last race just.
       ends laws design plan fault new slot own kept g.stands.good_slot.rules here fine
       (laws.slots.ends design fault slot (start (faulty_machine design fault)) place own pairs (marks_of design notes) kept g.stands none last race) just;
+  on_time = λ design plan fault slot new here after. on-time laws design plan fault slot new here after;
 }

@@ -8,7 +8,7 @@ use Rattle.v_design.specs.PhaseLogs.{phase_race}
 use Rattle.v_design.specs.WellFormed.{KeepsRules}
 use Rattle.machine_laws.specs.SlotLoop.{Moment, first_moment}
 use Rattle.copy_laws.specs.Differences.{Differences}
-use Rattle.copy_laws.specs.Windows.{good_slots}
+use Rattle.copy_laws.specs.Windows.{good_slots, state_at}
 use Rattle.block_filter.specs.Blocks.{BlockPair}
 use Rattle.trace_window.specs.Moments.{window_events}
 use Rattle.wait_index.specs.Waits.{WaitsAreOfBodies}
@@ -41,3 +41,6 @@ pub record FirstSlotGoesOn : Type 0 where
       (notes : NotesKept) (kept : LockstepKept) (spare : ℕ) → slice_get (good_slots design plan) 0 ≡ Some slot → slot_outcome (good_machine design) slot ≡ Fine →
       IsGoing design plan fault slot (start (faulty_machine design fault)) from until moment place own pairs notes kept spare → place.left ≡ [] → place.later ≡ [] →
       phase_race (faulty_machine design fault) own.phase_begins own.events ≡ None → AreJustKept kept new → IsCopyInLockstep design plan fault 0 slot.begins.time new
+  -- and the faulty machine is at the slot's time then
+  pub on_time : (design : FlatDesign) (plan : TestPlan) (fault : StuckAt) (slot : FirstSlot) (new : Differences) → slice_get (good_slots design plan) 0 ≡ Some slot →
+      IsCopyInLockstep design plan fault 0 slot.begins.time new → (state_at (faulty_machine design fault) plan.end slot.begins.time).time ≡ slot.begins.time

@@ -13,6 +13,7 @@ pub fn first_slot_goes_on()
 {
     beside_laws::good_run_goes_on();
     beside_laws::runs_go_on();
+    copy_laws::own_runs();
     lockstep_laws::lockstep_stands();
     lockstep_laws::nothing_becomes_same();
     lockstep_notes::notes_go_on();

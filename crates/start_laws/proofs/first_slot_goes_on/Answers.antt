@@ -20,4 +20,5 @@ returns c =
       phases = c.phases_follow.ensures.phases;
       first = c.first_slots_stand.ensures;
       writes = c.writes_stay.ensures.stay;
+      event_times = c.own_runs.ensures.time;
     })
