@@ -84,7 +84,7 @@ fn is_far_apart(kept: usize, objects: usize) -> bool
     if kept < MANY_KEPT {
         return false;
     }
-    objects / kept < kept / 12
+    objects / kept < kept / 48
 }
 
 /// Whether a copy keeps no process's state, and updates that are due at the times of those that the good machine has pending before a slot of a window: so that the slot may
