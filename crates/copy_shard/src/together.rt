@@ -155,8 +155,8 @@ fn advance_joined<'d, N: World, L: Ledger>(
     Ok(())
 }
 
-/// Takes claimed shards through the next window of the good first run side by side, so many at once: the good machine's states are gone through once for all of them. `steps` ticks at most once
-/// for each own step of the faulty machines in between.
+/// Takes claimed shards through the next window of the good first run, so many at a time side by side: the good machine's states are gone through once for all of these. `steps`
+/// ticks at most once for each own step of the faulty machines in between.
 ///
 /// # Errors
 ///
