@@ -107,7 +107,7 @@ none-behind good design plan rules before through window more = go through refl
         let next = slot-there (good_slots design plan) through more in
         let behind : slice_get (good_slots design plan) (suc number) ≡ Some next.0 = ap (slice_get (good_slots design plan)) (sym e) ∙ next.1 in
         let fine : slot_outcome (good_machine design) window.last ≡ Fine = (good.fine design plan number window.last next.0 rules (window.stands number e) behind).0 in
-        let open : IsThrough ≡ IsOpen = window.end_is ∙ (λ i. end-by (next.1 i) (fine i)) in
+        let both : IsThrough ≡ IsOpen = window.end_is ∙ (λ i. end-by (next.1 i) (fine i)) in
         cc
 
 -- Where the grading ended
