@@ -1,3 +1,4 @@
+pub mod Stops
 mod Passing
 mod Slots
 mod Taking

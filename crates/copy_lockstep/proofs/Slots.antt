@@ -5,12 +5,13 @@ use Rattle.std.proofs.lemmas.Bool.{cases_lt}
 use Rattle.vf_base.specs.declared.finding.End.TheVariants.{Detected}
 use Rattle.v_design.specs.Designs.{FlatDesign, StuckAt, TestPlan, faulty_machine}
 use Rattle.v_design.specs.Runs.{FirstSlot}
-use Rattle.v_design.specs.WellFormed.{KeepsRules}
+use Rattle.v_design.specs.WellFormed.{IsPlan, KeepsRules}
 use Rattle.between_slots.specs.Between.{state_through}
 use Rattle.copy_laws.specs.Windows.{good_slots, state_at, time_at}
 use Rattle.copy_state.specs.Kept.{CopyKept}
 use Rattle.grade_laws.specs.Grading.{good_stop}
 use Rattle.beside_laws.specs.GoodRuns.{GoodRunGoesOn}
+use Rattle.fault_strobes.specs.Strobes.{StrobedFaultsGoOn}
 use Rattle.lockstep_due.specs.lockstep_copies.Copies.{IsCopyInLockstep}
 use Rattle.lockstep_due.specs.window_strobes.Passed.{HasPassed}
 use Rattle.lockstep_due.specs.copy_window.Copies.{differences_in}
@@ -27,8 +28,10 @@ use Rattle.lockstep_due.specs.slot_strobes.Counts.{CountsBy}
 use Rattle.lockstep_due.specs.slot_strobes.Strobes.{ComeBefore, IsFoundAt, IsGradingBehind, StandsBeforeSlot}
 use Rattle.copy_lockstep.specs.Entered.{EntersSlot, HasEnded}
 use Rattle.copy_lockstep.specs.Faults.{IsOpenAtSlot, MayTry, StandsAtSlot}
-use Rattle.lockstep_due.proofs.slot_strobes.Lists.{at-drop, at-take}
-use Rattle.lockstep_due.proofs.slot_strobes.Counted.{passed-behind}
+use Rattle.copy_lockstep.specs.Stops.{NoStopThrough}
+use Rattle.slot_strobes.proofs.Lists.{at-drop, at-take}
+use Rattle.slot_strobes.proofs.Counted.{passed-behind}
+use Rattle.copy_lockstep.proofs.Stops.{IsNoStop, ends-there}
 use Rattle.copy_lockstep.proofs.Within.{differences-are}
 
 -- a fault of a shard of which nothing was found stands open where more slots come
@@ -62,128 +65,129 @@ may-try law design plan fault gone passed own rules at states due = record {
   lockstep = law.enters design plan fault at.number at.time passed own rules at.behind states (subst (λ n. AreDueAlike design plan n own.copy.updates) at.gone_is due);
 }
 
+-- Before the slot
+
 module _ (law : ShardsGoInLockstep) (good : GoodRunGoesOn) (design : FlatDesign) (plan : TestPlan) (rules : KeepsRules design) (fault : StuckAt) (gone : ℕ)
-    (more : suc gone < length (good_slots design plan)) where
-  abbrev pub slot : FirstSlot
+    (one : IsNoStop design plan gone) (begins : ℕ) (same : begins ≡ one.slot.begins.time) where
+  module _ (passed : ℕ) (own : ShardFault) (m : MayTry design plan fault gone passed own) where
+    here : slice_get (good_slots design plan) (suc m.number) ≡ Some one.slot
+    here = ap (slice_get (good_slots design plan)) (sym m.gone_is) ∙ one.there
+
+    pub starts-later : m.time < begins
+    starts-later = (let later = m.lockstep.before one.slot here in omega (arith, later, same))
+
+    -- strobes that came before
+    pub earlier : (place strobe : ℕ) → place < passed → slice_get plan.strobes place ≡ Some strobe → strobe < begins
+    earlier place strobe low at =
+        let by : strobe ≤ m.time =
+        at-take (λ s. s ≤ m.time) plan.strobes passed place strobe (m.behind.has_passed.early m.time m.behind.time_is m.behind.more) low at in
+        omega (arith, by, starts-later)
+
+    pub stands-before : (place strobe : ℕ) → passed ≤ place → slice_get plan.strobes place ≡ Some strobe → strobe ≤ begins - 1 →
+        StandsBeforeSlot design plan fault (differences_in design own.copy) gone strobe
+    stands-before place strobe low at by =
+        let after : m.time < strobe =
+        at-drop (λ s. m.time < s) plan.strobes passed place strobe (m.behind.has_passed.later m.time m.behind.time_is m.behind.more) low at in
+        let next : (other : FirstSlot) → slice_get (good_slots design plan) (suc m.number) ≡ Some other → strobe < other.begins.time =
+        λ other there. (let is : one.slot.begins.time ≡ other.begins.time = ap (λ (s : FirstSlot). s.begins.time) (some-is one.slot other (sym here ∙ there)) in
+        omega (arith, by, starts-later, same, is)) in
+        record {
+          stands = law.strobes design plan fault m.number m.time (differences_in design own.copy) strobe m.lockstep (omega (arith, after)) next
+              (stops-earlier strobe one.slot.begins.time (good_stop design plan) (omega (arith, by, starts-later, same)) one.on);
+          state_is =
+              good.stands design plan m.number strobe m.lockstep.last rules m.lockstep.stands m.lockstep.fine
+              (let since : m.lockstep.last.begins.time ≤ m.time = m.lockstep.since in omega (arith, since, after)) next
+              ∙ ap (state_through design plan) (sym m.gone_is);
+        }
+
+    pub grades-from : IsGradingBehind design plan fault passed (said_by own)
+    grades-from = record { now = Some m.time; goes = law.grading design plan fault m.number m.time passed own rules m.behind }
+
+    -- it was found at one of the strobes before
+    pub found-before : StrobedFaultsGoOn → IsPlan plan → NoStopThrough design plan (suc gone) → (count time : ℕ) → ComeBefore plan.strobes count begins → (possible : Option ℕ) →
+        kept_by own ≡ false → IsFoundAt design plan fault passed count time (Judging possible) → StandsAtSlot design plan (suc gone) count (record own { end = Some (Detected time) })
+    found-before faults of_plan none count time come possible judged found = record {
+      stands = ends-there law faults good design plan fault gone count time (Detected time) (record own { end = Some (Detected time) }) rules of_plan none one
+          (judged-alike design plan fault time (Judged (grades.Detected time)) (Judging possible) (said_by own) refl judged found.ends)
+          (let low : time < begins = come.before found.place time found.before found.at in omega (arith, low, same)) m.behind.listed refl m.behind.stands.within;
+      has_passed = λ none. cc;
+    }
+
+    no-states : own.copy.states ≡ []
+    no-states = law.no_states design plan fault m.number m.time own.copy m.lockstep
+
+    -- the slot may be begun
+    pub may-begin : MayBeginSlot design plan fault gone own.copy
+    may-begin = record {
+      none = no-states;
+      before = m.number;
+      number_is = m.gone_is;
+      time = m.time;
+      lockstep =
+          subst (IsCopyInLockstep design plan fault m.number m.time) (differences-are design own.copy (law.no_states design plan fault m.number m.time own.copy m.lockstep)) m.lockstep;
+      slot = one.slot;
+      stands = one.there;
+      fine = one.fine;
+    }
+
+    module _ (new : CopyKept) (states : new.states ≡ []) (after : IsCopyInLockstep design plan fault gone one.slot.begins.time (lockstep_differences new)) where
+      pub in-lockstep : IsCopyInLockstep design plan fault gone one.slot.begins.time (differences_in design new)
+      in-lockstep = subst (IsCopyInLockstep design plan fault gone one.slot.begins.time) (sym (differences-are design new states)) after
+
+      pub goes-behind : IsCopyInLockstep design plan fault gone begins (differences_in design new)
+      goes-behind = subst (λ t. IsCopyInLockstep design plan fault gone t (differences_in design new)) (sym same) in-lockstep
+
+      pub on-time : (state_at (faulty_machine design fault) plan.end begins).time ≡ begins
+      on-time =
+          subst (λ t. (state_at (faulty_machine design fault) plan.end t).time ≡ t) (sym same)
+          (law.on_time design plan fault m.number m.time (differences_in design own.copy) (differences_in design new) one.slot m.lockstep here
+          (subst (λ n. IsCopyInLockstep design plan fault n one.slot.begins.time (differences_in design new)) m.gone_is in-lockstep))
+
+-- Behind a slot behind which another one comes
+
+module _ (law : ShardsGoInLockstep) (good : GoodRunGoesOn) (design : FlatDesign) (plan : TestPlan) (rules : KeepsRules design) (fault : StuckAt) (gone : ℕ)
+    (more : suc gone < length (good_slots design plan)) (begins : ℕ) (begins_is : time_at design plan (suc gone) ≡ Some begins) where
+  abbrev slot : FirstSlot
   slot = last good design plan rules gone more
 
-  pub slot-there : slice_get (good_slots design plan) gone ≡ Some slot
-  slot-there = last-there good design plan rules gone more
+  slot-is : slice_get (good_slots design plan) gone ≡ Some slot
+  slot-is = last-there good design plan rules gone more
 
-  module _ (begins : ℕ) (begins_is : time_at design plan (suc gone) ≡ Some begins) where
-    same : begins ≡ slot.begins.time
-    same = time-is good design plan rules gone more begins begins_is
+  begins-then : begins ≡ slot.begins.time
+  begins-then = time-is good design plan rules gone more begins begins_is
 
-    -- Before the slot
+  module _ (passed : ℕ) (own : ShardFault) (c : IsCopyInLockstep design plan fault gone begins (differences_in design own.copy)) (come : ComeBefore plan.strobes passed begins) where
+    pub stands-behind : (place strobe : ℕ) → passed ≤ place → slice_get plan.strobes place ≡ Some strobe → strobe ≤ begins →
+        StandsBeforeSlot design plan fault (differences_in design own.copy) (suc gone) strobe
+    stands-behind place strobe low at by =
+        let since : begins ≤ strobe = come.since place strobe low at in
+        let next : (other : FirstSlot) → slice_get (good_slots design plan) (suc gone) ≡ Some other → strobe < other.begins.time =
+        λ other there. (let later = next-later good design plan rules gone more other there in omega (arith, by, begins-then, later)) in
+        record {
+          stands = law.strobes design plan fault gone begins (differences_in design own.copy) strobe c since next
+              (stops-earlier strobe slot.begins.time (good_stop design plan) (omega (arith, by, begins-then)) (stops-later good design plan rules gone more));
+          state_is =
+              good.stands design plan gone strobe slot rules slot-is (fine-there good design plan rules gone more) (omega (arith, since, begins-then)) next;
+        }
 
-    module _ (passed : ℕ) (own : ShardFault) (m : MayTry design plan fault gone passed own) where
-      here : slice_get (good_slots design plan) (suc m.number) ≡ Some slot
-      here = ap (slice_get (good_slots design plan)) (sym m.gone_is) ∙ slot-there
+    module _ (listed : slice_get plan.faults own.copy.fault ≡ Some fault) (count : ℕ) (counts : CountsBy plan.strobes passed count begins) where
+      has : HasPassed design plan (suc gone) count
+      has = passed-behind design plan gone begins passed count begins_is (λ place strobe low at. (let less : strobe < begins = come.before place strobe low at in omega (arith, less))) counts
 
-      pub starts-later : m.time < begins
-      starts-later = (let later = m.lockstep.before slot here in omega (arith, later, same))
-
-      -- strobes that came before
-      pub earlier : (place strobe : ℕ) → place < passed → slice_get plan.strobes place ≡ Some strobe → strobe < begins
-      earlier place strobe low at =
-          let by : strobe ≤ m.time =
-          at-take (λ s. s ≤ m.time) plan.strobes passed place strobe (m.behind.has_passed.early m.time m.behind.time_is m.behind.more) low at in
-          omega (arith, by, starts-later)
-
-      pub stands-before : (place strobe : ℕ) → passed ≤ place → slice_get plan.strobes place ≡ Some strobe → strobe ≤ begins - 1 →
-          StandsBeforeSlot design plan fault (differences_in design own.copy) gone strobe
-      stands-before place strobe low at by =
-          let after : m.time < strobe =
-          at-drop (λ s. m.time < s) plan.strobes passed place strobe (m.behind.has_passed.later m.time m.behind.time_is m.behind.more) low at in
-          let next : (other : FirstSlot) → slice_get (good_slots design plan) (suc m.number) ≡ Some other → strobe < other.begins.time =
-          λ other there. (let is : slot.begins.time ≡ other.begins.time = ap (λ (s : FirstSlot). s.begins.time) (some-is slot other (sym here ∙ there)) in
-          omega (arith, by, starts-later, same, is)) in
-          record {
-            stands = law.strobes design plan fault m.number m.time (differences_in design own.copy) strobe m.lockstep (omega (arith, after)) next
-                (stops-earlier strobe slot.begins.time (good_stop design plan) (omega (arith, by, starts-later, same)) (stops-later good design plan rules gone more));
-            state_is =
-                good.stands design plan m.number strobe m.lockstep.last rules m.lockstep.stands m.lockstep.fine
-                (let since : m.lockstep.last.begins.time ≤ m.time = m.lockstep.since in omega (arith, since, after)) next
-                ∙ ap (state_through design plan) (sym m.gone_is);
-          }
-
-      pub grades-from : IsGradingBehind design plan fault passed (said_by own)
-      grades-from = record { now = Some m.time; goes = law.grading design plan fault m.number m.time passed own rules m.behind }
-
-      -- it was found at one of the strobes before
-      pub found-before : (count time : ℕ) → ComeBefore plan.strobes count begins → (possible : Option ℕ) → kept_by own ≡ false → IsFoundAt design plan fault passed count time (Judging possible) →
-          StandsAtSlot design plan (suc gone) count (record own { end = Some (Detected time) })
-      found-before count time come possible judged found = record {
-        stands = law.found design plan fault gone begins count time (Detected time) (record own { end = Some (Detected time) }) rules
-            (judged-alike design plan fault time (Judged (grades.Detected time)) (Judging possible) (said_by own) refl judged found.ends)
-            (let low : time < begins = come.before found.place time found.before found.at in omega (arith, low)) m.behind.listed refl m.behind.stands.within more begins_is;
+      pub found-behind : (time : ℕ) → IsFoundAt design plan fault passed count time (said_by own) →
+          StandsAtSlot design plan (suc gone) count (record own { time = begins; end = Some (Detected time) })
+      found-behind time found = record {
+        stands = law.found design plan fault gone begins count time (Detected time) (record own { time = begins; end = Some (Detected time) }) rules found.ends
+            (counts.by found.place time found.since found.before found.at) listed refl (law.keeps design plan fault gone begins own.copy c) more begins_is;
         has_passed = λ none. cc;
       }
 
-      no-states : own.copy.states ≡ []
-      no-states = law.no_states design plan fault m.number m.time own.copy m.lockstep
-
-      -- the slot may be begun
-      pub may-begin : MayBeginSlot design plan fault gone own.copy
-      may-begin = record {
-        none = no-states;
-        before = m.number;
-        number_is = m.gone_is;
-        time = m.time;
-        lockstep =
-            subst (IsCopyInLockstep design plan fault m.number m.time) (differences-are design own.copy (law.no_states design plan fault m.number m.time own.copy m.lockstep)) m.lockstep;
-        slot = slot;
-        stands = slot-there;
-        fine = fine-there good design plan rules gone more;
+      pub goes-on-behind : own.end ≡ None → (state_at (faulty_machine design fault) plan.end begins).time ≡ begins →
+          IsGradingBehind design plan fault count (said_by own) → StandsAtSlot design plan (suc gone) count (record own { time = begins })
+      goes-on-behind none on_time grading = record {
+        stands = law.leaves design plan fault gone begins count grading.now (record own { time = begins }) c listed none more begins_is has grading.goes on_time;
+        has_passed = λ none. has;
       }
-
-      module _ (new : CopyKept) (states : new.states ≡ []) (after : IsCopyInLockstep design plan fault gone slot.begins.time (lockstep_differences new)) where
-        in-lockstep : IsCopyInLockstep design plan fault gone slot.begins.time (differences_in design new)
-        in-lockstep = subst (IsCopyInLockstep design plan fault gone slot.begins.time) (sym (differences-are design new states)) after
-
-        pub goes-behind : IsCopyInLockstep design plan fault gone begins (differences_in design new)
-        goes-behind = subst (λ t. IsCopyInLockstep design plan fault gone t (differences_in design new)) (sym same) in-lockstep
-
-        pub on-time : (state_at (faulty_machine design fault) plan.end begins).time ≡ begins
-        on-time =
-            subst (λ t. (state_at (faulty_machine design fault) plan.end t).time ≡ t) (sym same)
-            (law.on_time design plan fault m.number m.time (differences_in design own.copy) (differences_in design new) slot m.lockstep here
-            (subst (λ n. IsCopyInLockstep design plan fault n slot.begins.time (differences_in design new)) m.gone_is in-lockstep))
-
-    -- Behind the slot
-
-    module _ (passed : ℕ) (own : ShardFault) (c : IsCopyInLockstep design plan fault gone begins (differences_in design own.copy)) (come : ComeBefore plan.strobes passed begins) where
-      pub stands-behind : (place strobe : ℕ) → passed ≤ place → slice_get plan.strobes place ≡ Some strobe → strobe ≤ begins →
-          StandsBeforeSlot design plan fault (differences_in design own.copy) (suc gone) strobe
-      stands-behind place strobe low at by =
-          let since : begins ≤ strobe = come.since place strobe low at in
-          let next : (other : FirstSlot) → slice_get (good_slots design plan) (suc gone) ≡ Some other → strobe < other.begins.time =
-          λ other there. (let later = next-later good design plan rules gone more other there in omega (arith, by, same, later)) in
-          record {
-            stands = law.strobes design plan fault gone begins (differences_in design own.copy) strobe c since next
-                (stops-earlier strobe slot.begins.time (good_stop design plan) (omega (arith, by, same)) (stops-later good design plan rules gone more));
-            state_is =
-                good.stands design plan gone strobe slot rules slot-there (fine-there good design plan rules gone more) (omega (arith, since, same)) next;
-          }
-
-      module _ (listed : slice_get plan.faults own.copy.fault ≡ Some fault) (count : ℕ) (counts : CountsBy plan.strobes passed count begins) where
-        has : HasPassed design plan (suc gone) count
-        has = passed-behind design plan gone begins passed count begins_is (λ place strobe low at. (let less : strobe < begins = come.before place strobe low at in omega (arith, less))) counts
-
-        pub found-behind : (time : ℕ) → IsFoundAt design plan fault passed count time (said_by own) →
-            StandsAtSlot design plan (suc gone) count (record own { time = begins; end = Some (Detected time) })
-        found-behind time found = record {
-          stands = law.found design plan fault gone begins count time (Detected time) (record own { time = begins; end = Some (Detected time) }) rules found.ends
-              (counts.by found.place time found.since found.before found.at) listed refl (law.keeps design plan fault gone begins own.copy c) more begins_is;
-          has_passed = λ none. cc;
-        }
-
-        pub goes-on-behind : own.end ≡ None → (state_at (faulty_machine design fault) plan.end begins).time ≡ begins →
-            IsGradingBehind design plan fault count (said_by own) → StandsAtSlot design plan (suc gone) count (record own { time = begins })
-        goes-on-behind none on_time grading = record {
-          stands = law.leaves design plan fault gone begins count grading.now (record own { time = begins }) c listed none more begins_is has grading.goes on_time;
-          has_passed = λ none. has;
-        }
 
 -- of strobes that come before a time and those that don't
 pub come-before : (strobes : List ℕ) (from count time : ℕ) → 0 < time → ((place strobe : ℕ) → place < from → slice_get strobes place ≡ Some strobe → strobe < time) →
@@ -217,24 +221,29 @@ has-ended design plan gone passed own at ended = record { passed = passed; stand
 
 -- what enters a slot
 pub enters-slot : (design : FlatDesign) (plan : TestPlan) (fault : StuckAt) (gone before : ℕ) (own : ShardFault) → MayTry design plan fault gone before own → (begins : ℕ) →
-    time_at design plan (suc gone) ≡ Some begins → (passed : ℕ) (possible : Option ℕ) → ComeBefore plan.strobes passed begins →
+    ((one : FirstSlot) → slice_get (good_slots design plan) gone ≡ Some one → begins ≡ one.begins.time) → (passed : ℕ) (possible : Option ℕ) → ComeBefore plan.strobes passed begins →
     (kept_by own ≡ false → IsGradingBehind design plan fault passed (Judging possible)) → EntersSlot design plan fault gone before own passed possible
 enters-slot design plan fault gone before own may begins is passed possible come grading = record {
   may = may;
-  come = λ other there. subst (ComeBefore plan.strobes passed) (some-is begins other (sym is ∙ there)) come;
+  come = λ one there. subst (ComeBefore plan.strobes passed) (is one there) come;
   grading = grading;
 }
 
 -- what came through it
 module _ (law : ShardsGoInLockstep) (good : GoodRunGoesOn) (design : FlatDesign) (plan : TestPlan) (rules : KeepsRules design) (fault : StuckAt) (gone : ℕ)
-    (more : suc gone < length (good_slots design plan)) (begins : ℕ) (begins_is : time_at design plan (suc gone) ≡ Some begins) (before passed : ℕ) (possible : Option ℕ) (own : ShardFault)
+    (one : IsNoStop design plan gone) (begins : ℕ) (same : begins ≡ one.slot.begins.time) (before passed : ℕ) (possible : Option ℕ) (own : ShardFault)
     (en : EntersSlot design plan fault gone before own passed possible) (new : CopyKept) (states : new.states ≡ [])
     (through : (first : FirstSlot) → slice_get (good_slots design plan) gone ≡ Some first → IsCopyInLockstep design plan fault gone first.begins.time (lockstep_differences new)) where
-  after : IsCopyInLockstep design plan fault gone (last good design plan rules gone more).begins.time (lockstep_differences new)
-  after = through (last good design plan rules gone more) (last-there good design plan rules gone more)
+  after : IsCopyInLockstep design plan fault gone one.slot.begins.time (lockstep_differences new)
+  after = through one.slot one.there
 
   pub copy-behind : IsCopyInLockstep design plan fault gone begins (differences_in design new)
-  copy-behind = goes-behind law good design plan rules fault gone more begins begins_is before own en.may new states after
+  copy-behind = goes-behind law good design plan rules fault gone one begins same before own en.may new states after
 
   pub time-behind : (state_at (faulty_machine design fault) plan.end begins).time ≡ begins
-  time-behind = on-time law good design plan rules fault gone more begins begins_is before own en.may new states after
+  time-behind = on-time law good design plan rules fault gone one begins same before own en.may new states after
+
+  pub copy-there : (other : FirstSlot) → slice_get (good_slots design plan) gone ≡ Some other → IsCopyInLockstep design plan fault gone other.begins.time (differences_in design new)
+  copy-there other there =
+      subst (λ (s : FirstSlot). IsCopyInLockstep design plan fault gone s.begins.time (differences_in design new)) (some-is one.slot other (sym one.there ∙ there))
+      (in-lockstep law good design plan rules fault gone one begins same before own en.may new states after)

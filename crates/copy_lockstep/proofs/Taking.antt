@@ -252,9 +252,8 @@ module _ (law : StepLaws) (design : FlatDesign) (plan : TestPlan) (fault : Stuck
 
   later : AllHold (λ (strobe : ℕ). time ≤ strobe) next-k
   later =
-      let come : ComeBefore plan.strobes passed leads-to.time = en.come leads-to.time leads-to.time_is in
-      ending-hold (λ (strobe : ℕ). time ≤ strobe) kept (drop passed plan.strobes) (holds-drop (λ (strobe : ℕ). time ≤ strobe) plan.strobes passed
-      (λ place strobe low here. (let by : leads-to.time ≤ strobe = come.since place strobe low here in let since : time ≤ leads-to.time = leads-to.since in omega (arith, by, since))))
+      let come : ComeBefore plan.strobes passed time = en.come may.slot may.stands in
+      ending-hold (λ (strobe : ℕ). time ≤ strobe) kept (drop passed plan.strobes) (holds-drop (λ (strobe : ℕ). time ≤ strobe) plan.strobes passed come.since)
 
   -- nor did the faulty machine stop
   goes-past : StopsAfter (time - 1) (faulty_stop design plan fault)

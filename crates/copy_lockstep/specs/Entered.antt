@@ -1,7 +1,8 @@
 -- What becomes of a fault at a slot of a window (strobes by the plan; slots by IEEE 1364-2001, clause 5).
-use Rattle.std.specs.Prelude.{◌≡◌, ℕ, suc, ◌+◌, ◌<◌, ◌≤◌, true, false, [], Option, Some, is_some}
+use Rattle.std.specs.Prelude.{◌≡◌, ℕ, suc, ◌+◌, ◌<◌, ◌≤◌, true, false, [], Option, Some, is_some, slice_get}
 use Rattle.v_design.specs.Designs.{FlatDesign, StuckAt, TestPlan}
-use Rattle.copy_laws.specs.Windows.{time_at}
+use Rattle.v_design.specs.Runs.{FirstSlot}
+use Rattle.copy_laws.specs.Windows.{good_slots}
 use Rattle.good_trace.specs.Traces.{WindowKept}
 use Rattle.fault_strobes.specs.Said.{Judging}
 use Rattle.lockstep_due.specs.copy_window.ShardFaults.{IsShardFault, kept_by}
@@ -18,7 +19,7 @@ use Rattle.copy_lockstep.specs.declared.reached.Reached.{Reached}
 -- first with a possible detection, if there was one, and where its samples are kept they are seen behind the slot
 pub record EntersSlot (design : FlatDesign) (plan : TestPlan) (fault : StuckAt) (gone before : ℕ) (own : ShardFault) (passed : ℕ) (possible : Option ℕ) : Type 0 where
   pub may : MayTry design plan fault gone before own
-  pub come : (begins : ℕ) → time_at design plan (suc gone) ≡ Some begins → ComeBefore plan.strobes passed begins
+  pub come : (slot : FirstSlot) → slice_get (good_slots design plan) gone ≡ Some slot → ComeBefore plan.strobes passed slot.begins.time
   pub grading : kept_by own ≡ false → IsGradingBehind design plan fault passed (Judging possible)
 
 -- it is passed over slots

@@ -1,3 +1,4 @@
+pub mod Stops
 pub mod Faults
 pub mod Entered
 pub mod Steps

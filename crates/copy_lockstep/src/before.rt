@@ -1,16 +1,19 @@
 // A fault before a slot.
 
-ghost use Rattle.std.specs.Prelude.{◌≡◌, ℕ, ◌+◌, ◌<◌, ◌≤◌, IfOk, None, OnOk, Some, false, length, slice_get, true};
+ghost use Rattle.std.specs.Prelude.{◌≡◌, ℕ, ◌+◌, ◌<◌, ◌≤◌, IfOk, None, OnOk, Some, false, slice_get, true};
 ghost use Rattle.v_design.specs.Plain.{fault_of};
-ghost use Rattle.copy_laws.specs.Windows.{good_slots, time_at};
+ghost use Rattle.v_design.specs.Runs.{FirstSlot};
+ghost use Rattle.copy_laws.specs.Windows.{good_slots};
 ghost use Rattle.lockstep_due.specs.window_strobes.Passed.{HasPassed};
 ghost use Rattle.fault_strobes.specs.Said.{Judging};
 ghost use Rattle.lockstep_due.specs.copy_window.ShardFaults.{IsShardFault, SameFault, kept_by};
 ghost use Rattle.lockstep_due.specs.slot_strobes.Strobes.{ComeBefore, IsSeenTo};
 ghost use Rattle.copy_lockstep.specs.Faults.{IsOpenAtSlot, MayTry};
 ghost use Rattle.copy_lockstep.specs.Entered.{HasEntered};
+ghost use Rattle.copy_lockstep.specs.Stops.{NoStopThrough};
 
 use crate::entered::{Entered, Entering};
+use crate::last::end_of_passing;
 use crate::pass::pass_slots;
 use crate::reached::Reached;
 use fault_strobes::Strobed;
@@ -31,9 +34,9 @@ fn see_before<N: World>(
     begins: u64,
 ) -> Judged
     requires slot { window.now.before + at.slot < window.now.through }
-    requires next { window.now.before + at.slot + 1 < length (good_slots N.design N.plan) }
+    requires fine { NoStopThrough N.design N.plan (window.now.before + at.slot + 1) }
     requires fault { MayTry N.design N.plan (fault_of fault) (window.now.before + at.slot) at.passed own.now }
-    requires begins { time_at N.design N.plan (window.now.before + at.slot + 1) ≡ Some begins }
+    requires begins { (one : FirstSlot) → slice_get (good_slots N.design N.plan) (window.now.before + at.slot) ≡ Some one → begins ≡ one.begins.time }
     ensures passed { ComeBefore N.plan.strobes result.passed begins }
     ensures seen { kept_by own.now ≡ false → IsSeenTo N.design N.plan (fault_of fault) at.passed result.passed (Judging result.possible) result.hard }
     ensures none { kept_by own.now ≡ true → result.hard ≡ None }
@@ -70,14 +73,16 @@ fn try_slot<N: World>(
     at: Reached,
 ) -> Result<Entered, NoMemory>
     requires slot { view.now.window.now.before + at.slot < view.now.window.now.through }
-    requires next { view.now.window.now.before + at.slot + 1 < length (good_slots N.design N.plan) }
+    requires fine { NoStopThrough N.design N.plan (view.now.window.now.before + at.slot + 1) }
     requires fault { IsOpenAtSlot N.design N.plan (fault_of fault) (view.now.window.now.before + at.slot) at.passed own.old }
     ensures entered { IfOk result (λ entered. (last : ℕ) → at.slot < last → HasEntered N.design N.plan (fault_of fault) view.now.window.now at last own.old own.new entered) }
     ensures place { OnOk result (SameFault own.old own.new) }
 {
     beside_laws::good_run_goes_on();
+    fault_strobes::strobed_faults_go_on();
     shards_go_in_lockstep();
     let design = setup.design();
+    let plan = setup.plan();
     let may = may_go(alloc, setup, view.window, at.slot, &own.copy)?;
     if !may {
         return Ok(Entered::Whole);
@@ -116,7 +121,7 @@ pub fn enter<N: World>(
 ) -> Result<Entered, NoMemory>
     requires slot { view.now.window.now.before + at.slot < view.now.window.now.through }
     requires last { view.now.window.now.before + last ≤ view.now.window.now.through }
-    requires more { view.now.window.now.before + last < length (good_slots N.design N.plan) }
+    requires fine { NoStopThrough N.design N.plan (view.now.window.now.before + last) }
     requires some { 0 < view.now.window.now.before + at.slot }
     requires fault { IsShardFault N.design N.plan (view.now.window.now.before + at.slot) at.passed own.old }
     requires listed { slice_get N.plan.faults own.old.copy.fault ≡ Some (fault_of fault) }
@@ -130,7 +135,8 @@ pub fn enter<N: World>(
     if at.slot >= last {
         return Ok(Entered::Whole);
     }
-    let passed = pass_slots(setup, view.window, fault, own, at, last);
+    let to = end_of_passing(setup, view.window).min(last);
+    let passed = pass_slots(setup, view.window, fault, own, at, to);
     if passed.slot > at.slot {
         return Ok(Entered::Passed(passed));
     }

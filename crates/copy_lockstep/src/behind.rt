@@ -1,24 +1,29 @@
 // A fault behind a slot through which it went in lockstep.
 
-ghost use Rattle.std.specs.Prelude.{◌≡◌, ◌+◌, ◌<◌, [], IfOk, None, OnOk, Some, length, slice_get};
+ghost use Rattle.std.specs.Prelude.{◌≡◌, ◌+◌, ◌<◌, [], IfOk, None, OnOk, Some, is_some, length, slice_get, true};
 ghost use Rattle.v_design.specs.Designs.{faulty_machine};
-ghost use Rattle.v_design.specs.Plain.{fault_of};
+ghost use Rattle.v_design.specs.Grades.{Judged};
+ghost use Rattle.v_design.specs.Plain.{fault_of, grade_of};
 ghost use Rattle.v_design.specs.Runs.{FirstSlot};
 ghost use Rattle.copy_laws.specs.Windows.{good_slots, state_at, time_at};
 ghost use Rattle.lockstep_due.specs.lockstep_copies.Copies.{IsCopyInLockstep};
 ghost use Rattle.lockstep_due.specs.copy_window.Copies.{differences_in};
-ghost use Rattle.lockstep_due.specs.copy_window.ShardFaults.{SameFault, kept_by, said_by};
+ghost use Rattle.lockstep_due.specs.copy_window.ShardFaults.{IsShardFault, SameFault, kept_by, said_by};
 ghost use Rattle.lockstep_slot.specs.slot_laws.Copies.{lockstep_differences};
-ghost use Rattle.lockstep_due.specs.slot_strobes.Strobes.{ComeBefore, IsGradingBehind};
+ghost use Rattle.slot_strobes.specs.Strobes.{ComeBefore, IsGradingBehind};
+ghost use Rattle.strobe_detect.specs.Verdicts.{verdict_view};
 ghost use Rattle.copy_lockstep.specs.Faults.{StandsAtSlot};
 ghost use Rattle.copy_lockstep.specs.Entered.{EntersSlot};
+ghost use Rattle.copy_lockstep.specs.Stops.{EndsWithoutStop, NoStopThrough};
 
+use crate::last::end_of_passing;
 use crate::reached::Reached;
 use fault_strobes::Strobed;
 use good_trace::{Setup, TraceWindow};
-use lockstep_due::{ShardFault, see_to, shards_go_in_lockstep};
+use lockstep_due::{ShardFault, copies_go_in_lockstep, shards_go_in_lockstep};
 use lockstep_slot::FaultInSlot;
 use std::alloc::Global;
+use strobe_detect::Grade;
 use v_design::{Fault, World};
 use vf_base::{End, NoMemory};
 
@@ -38,8 +43,8 @@ fn take_up<N: World>(
     possible: Option<u64>,
 ) -> Result<usize, NoMemory>
     requires slot { window.now.before + slot < window.now.through }
-    requires next { window.now.before + slot + 1 < length (good_slots N.design N.plan) }
-    requires begins { time_at N.design N.plan (window.now.before + slot + 1) ≡ Some begins }
+    requires fine { NoStopThrough N.design N.plan (window.now.before + slot + 1) }
+    requires begins { (one : FirstSlot) → slice_get (good_slots N.design N.plan) (window.now.before + slot) ≡ Some one → begins ≡ one.begins.time }
     requires entered { EntersSlot N.design N.plan (fault_of fault) (window.now.before + slot) before own.old passed possible }
     ensures passed { IfOk result (λ count. ComeBefore N.plan.strobes count begins) }
     ensures grading { IfOk result (λ count. IsGradingBehind N.design N.plan (fault_of fault) count (said_by own.new)) }
@@ -115,8 +120,71 @@ fn see_behind<N: World>(
     Ok(seen.passed)
 }
 
+/// How a grading ends whose strobes had no hard detection.
+fn end_by(verdict: Grade) -> End
+    ensures { grade_of result ≡ Judged (verdict_view verdict) }
+{
+    match verdict {
+        Grade::Detected(time) => End::Detected(time),
+        Grade::Possible(time) => End::Possible(time),
+        Grade::Undetected => End::Undetected,
+    }
+}
+
+/// Shows a fault that went in lockstep through the last slot of the good first run the plan's strobes from then on, and ends its grading. So many of them come before the slot's
+/// time. The answer is how many there are.
+fn end_grading<N: World>(
+    alloc: Global,
+    setup: &Setup<'_, N>,
+    window: &TraceWindow<N>,
+    fault: Fault,
+    own: &mut ShardFault,
+    slot: u32,
+    passed: usize,
+) -> Result<usize, NoMemory>
+    requires slot { window.now.before + slot < window.now.through }
+    requires last { EndsWithoutStop N.design N.plan (window.now.before + slot + 1) }
+    requires copy { (one : FirstSlot) → slice_get (good_slots N.design N.plan) (window.now.before + slot) ≡ Some one →
+        IsCopyInLockstep N.design N.plan (fault_of fault) (window.now.before + slot) one.begins.time (differences_in N.design own.old.copy) }
+    requires listed { slice_get N.plan.faults own.old.copy.fault ≡ Some (fault_of fault) }
+    requires passed { (one : FirstSlot) → slice_get (good_slots N.design N.plan) (window.now.before + slot) ≡ Some one →
+        ComeBefore N.plan.strobes passed one.begins.time }
+    requires grading { IsGradingBehind N.design N.plan (fault_of fault) passed (said_by own.old) }
+    ensures fault { IfOk result (λ count. IsShardFault N.design N.plan (window.now.before + slot + 1) count own.new) }
+    ensures ended { OnOk result (is_some own.new.end ≡ true) }
+    ensures place { OnOk result (SameFault own.old own.new) }
+{
+    beside_laws::good_run_goes_on();
+    copies_go_in_lockstep();
+    fault_strobes::strobed_faults_go_on();
+    fault_strobes::strobed_gradings_end();
+    shards_go_in_lockstep();
+    let design = setup.design();
+    let plan = setup.plan();
+    // The window has more slots than stand before the one behind, and their number fits.
+    let _all = window.slots();
+    let seen = see_to(
+        alloc,
+        setup,
+        window,
+        slot + 1,
+        fault,
+        &own.copy,
+        passed,
+        plan.end,
+        &mut own.strobed,
+    )?;
+    if let Some(time) = seen.hard {
+        own.end = Some(End::Detected(time));
+        return Ok(seen.passed);
+    }
+    own.end = Some(end_by(own.strobed.verdict()));
+    Ok(seen.passed)
+}
+
 /// Takes up a fault behind a slot of a window through which it went in lockstep. Up to the slot before so many of the plan's strobes come, and so many before the slot's time;
-/// where these judged it, the first possible detection was at this time, if there was one. The answer is how far it has come then.
+/// where these judged it, the first possible detection was at this time, if there was one. Behind the last slot of the good first run its grading ends. The answer is how far it has
+/// come then.
 ///
 /// # Errors
 ///
@@ -134,7 +202,7 @@ pub fn leave_slot<N: World>(
     slot: u32,
 ) -> Result<Reached, NoMemory>
     requires slot { window.now.before + slot < window.now.through }
-    requires next { window.now.before + slot + 1 < length (good_slots N.design N.plan) }
+    requires fine { NoStopThrough N.design N.plan (window.now.before + slot + 1) }
     requires entered { EntersSlot N.design N.plan (fault_of fault) (window.now.before + slot) before own.old passed possible }
     requires through { (first : FirstSlot) → slice_get (good_slots N.design N.plan) (window.now.before + slot) ≡ Some first →
         IsCopyInLockstep N.design N.plan (fault_of fault) (window.now.before + slot) first.begins.time (lockstep_differences one.own.copy) }
@@ -155,6 +223,14 @@ pub fn leave_slot<N: World>(
     )?;
     let FaultInSlot { own: through, .. } = one;
     own.copy = through.copy;
+    let last = end_of_passing(setup, window);
+    if slot >= last {
+        let shown = end_grading(alloc, setup, window, fault, own, slot, count)?;
+        return Ok(Reached {
+            slot: slot + 1,
+            passed: shown,
+        });
+    }
     let behind = see_behind(alloc, setup, window, fault, own, slot, begins, count)?;
     Ok(Reached {
         slot: slot + 1,

@@ -131,13 +131,11 @@ fn advance_rest<'d, N: World, L: Ledger>(
     Ok(behind)
 }
 
-/// Takes claimed shards through the next window of the good first run side by side: the good machine's states are gone through once for all of them. `steps` ticks at most once
-/// for each own step of the faulty machines in between.
-///
-/// # Errors
-///
-/// Want of memory. Nothing is said of the shards then.
-pub fn advance_together<'d, N: World, L: Ledger>(
+/// So many shards at most go through a window side by side: each fault that goes has room of its own meanwhile, and the good machine's states are gone through once for all of them.
+const MOST_TOGETHER: usize = 16;
+
+/// Takes some claimed shards through the next window of the good first run side by side.
+fn advance_joined<'d, N: World, L: Ledger>(
     alloc: Global,
     setup: &Setup<'d, N>,
     window: &RunWindow<N>,
@@ -154,5 +152,34 @@ pub fn advance_together<'d, N: World, L: Ledger>(
     advance_rest(
         alloc, setup, window, shards, &mut none, reached, room, steps,
     )?;
+    Ok(())
+}
+
+/// Takes claimed shards through the next window of the good first run, so many at a time side by side: the good machine's states are gone through once for all of these. `steps`
+/// ticks at most once for each own step of the faulty machines in between.
+///
+/// # Errors
+///
+/// Want of memory. Nothing is said of the shards then.
+pub fn advance_together<'d, N: World, L: Ledger>(
+    alloc: Global,
+    setup: &Setup<'d, N>,
+    window: &RunWindow<N>,
+    shards: &mut Vec<ClaimedShard<N>>,
+    room: &mut ShardRoom<'d, N>,
+    steps: &mut Steps<L>,
+) -> Result<(), NoMemory>
+    requires { All (HasGone window.now.before) shards.old.items }
+    ensures through { OnOk result (AllZip (GoesThrough N.design N.plan window.now.through) shards.old.items shards.new.items) }
+    ensures ticks { OnOk result (RisesOwn N.design N.plan (λ tally. claimed_steps tally shards.old.items) (λ tally. claimed_steps tally shards.new.items) steps.old steps.new) }
+{
+    if shards.len() <= MOST_TOGETHER {
+        advance_joined(alloc, setup, window, shards, room, steps)?;
+        return Ok(());
+    }
+    let mut rest = shards.split_off(MOST_TOGETHER)?;
+    advance_joined(alloc, setup, window, shards, room, steps)?;
+    advance_together(alloc, setup, window, &mut rest, room, steps)?;
+    shards.append(&mut rest)?;
     Ok(())
 }

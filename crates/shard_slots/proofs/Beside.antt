@@ -94,7 +94,7 @@ module _ (design : FlatDesign) (plan : TestPlan) (before through slot : ℕ) whe
           let rest = comes.stays.rest goes in
           record {
             slot_is = gone.slot_is;
-            more = gone.more;
+            fine = gone.fine;
             enters = subst (λ (f : Fault). EntersSlot design plan (fault_of f) (before + slot) at.passed own at.seen at.possible) (sym comes.stays.fault) gone.enters;
             place = rest.fault ∙ gone.place;
             states = rest.states ∙ gone.states;

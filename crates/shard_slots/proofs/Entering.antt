@@ -1,10 +1,9 @@
 -- What becomes of a fault at a slot (strobes by the plan; slots by IEEE 1364-2001, clause 5).
-use Rattle.std.proofs.Common.{◌≡◌, ℕ, suc, ◌+◌, ◌<◌, ◌≤◌, true, false, [], length, refl, sym, ap, subst, ◌∙◌, arith}
+use Rattle.std.proofs.Common.{◌≡◌, ℕ, suc, ◌+◌, ◌<◌, ◌≤◌, true, false, [], refl, sym, ap, subst, ◌∙◌, arith}
 use Rattle.std.specs.Prelude.{Option, Some, None, is_some, slice_get}
 use Rattle.v_design.specs.Designs.{FlatDesign, StuckAt, TestPlan}
 use Rattle.v_design.specs.Plain.{fault_of}
 use Rattle.v_design.specs.WellFormed.{KeepsRules}
-use Rattle.copy_laws.specs.Windows.{good_slots}
 use Rattle.beside_laws.specs.Shards.{FaultsGoOn}
 use Rattle.copy_lockstep.specs.window_strobes.Passed.{HasPassed}
 use Rattle.copy_lockstep.specs.copy_window.ShardFaults.{IsShardFault}
@@ -16,9 +15,11 @@ use Rattle.copy_lockstep.specs.lockstep_slot.Beside.{BeginsSlot}
 use Rattle.copy_lockstep.specs.Entered.{EntersSlot, EntersWith, HasEnded, IsPassed}
 use Rattle.copy_lockstep.specs.declared.entered.Entering.{Entering}
 use Rattle.copy_lockstep.specs.declared.reached.Reached.{Reached}
-use Rattle.copy_lockstep.specs.window_faults.Within.{IsWithin}
-use Rattle.copy_lockstep.specs.window_faults.declared.at.FaultAt.{FaultAt}
-use Rattle.copy_lockstep.proofs.window_faults.Within.{ended-later, within-there}
+use Rattle.copy_lockstep.specs.Stops.{NoStopThrough}
+use Rattle.copy_lockstep.proofs.Stops.{fewer}
+use Rattle.window_faults.specs.Within.{IsWithin}
+use Rattle.window_faults.specs.declared.at.FaultAt.{FaultAt}
+use Rattle.window_faults.proofs.Within.{ended-later, within-there}
 use Rattle.shard_slots.specs.Slots.{Enters}
 
 module _ (design : FlatDesign) (plan : TestPlan) (before through slot : ℕ) where
@@ -62,17 +63,17 @@ module _ (design : FlatDesign) (plan : TestPlan) (before through slot : ℕ) whe
 
   -- it enters the slot
   pub enters-there : (window : WindowKept) (last : ℕ) (entering : Entering) (old own : ShardFault) (at : FaultAt) (beside : FaultBeside) → window.before ≡ before → window.through ≡ through →
-      before + last < length (good_slots design plan) → EntersWith design plan (fault_of beside.fault) window last slot at.passed old own entering → beside.one ≡ entering.one → at.seen ≡ entering.passed →
+      NoStopThrough design plan (before + last) → EntersWith design plan (fault_of beside.fault) window last slot at.passed old own entering → beside.one ≡ entering.one → at.seen ≡ entering.passed →
       at.possible ≡ entering.possible → at.slot ≡ slot → IsWithin design plan before through own at → slice_get plan.faults own.copy.fault ≡ Some (fault_of beside.fault) →
       Enters design plan before through slot own at beside
-  enters-there window last entering old own at beside before_is through_is more enters one_is seen_is possible_is slot_is within listed = record {
+  enters-there window last entering old own at beside before_is through_is none enters one_is seen_is possible_is slot_is within listed = record {
     within = within;
     come = λ none. omega (arith, slot_is);
     listed = listed;
     tried = ap (λ (one : FaultInSlot). one.tried.items) one_is ∙ enters.begins.untried;
     goes = λ goes. record {
       slot_is = slot_is;
-      more = (let early = enters.early in omega (arith, early, more));
+      fine = fewer design plan (before + slot + 1) (before + last) (let early = enters.early in omega (arith, early)) none;
       enters =
           subst (λ (n : ℕ). EntersSlot design plan (fault_of beside.fault) (n + slot) at.passed own at.seen at.possible) before_is
           (subst (λ (p : Option ℕ). EntersSlot design plan (fault_of beside.fault) (window.before + slot) at.passed own at.seen p) (sym possible_is)

@@ -13,17 +13,18 @@ use Rattle.good_runs.specs.declared.tried.TriedStep.{TriedStep}
 use Rattle.copy_lockstep.specs.phase_faults.declared.beside.FaultBeside.{FaultBeside}
 use Rattle.copy_lockstep.specs.lockstep_slot.Beside.{BeginsSlot}
 use Rattle.copy_lockstep.specs.Entered.{EntersSlot}
-use Rattle.copy_lockstep.specs.window_faults.Within.{IsWithin}
-use Rattle.copy_lockstep.specs.window_faults.declared.at.FaultAt.{FaultAt}
+use Rattle.copy_lockstep.specs.Stops.{NoStopThrough}
+use Rattle.window_faults.specs.Within.{IsWithin}
+use Rattle.window_faults.specs.declared.at.FaultAt.{FaultAt}
 
 -- whether a fault goes in a slot in lockstep
 abbrev pub goes_beside : FaultBeside → Bool
 goes_beside beside = beside.goes
 
--- a fault goes in the slot of a number of a window beside others: it has come to it, another slot comes behind, and so many strobes were seen before it
+-- a fault goes in the slot of a number of a window beside others: it has come to it, it isn't the good machine's stop, and so many strobes were seen before it
 pub record GoesBeside (design : FlatDesign) (plan : TestPlan) (before slot : ℕ) (own : ShardFault) (at : FaultAt) (beside : FaultBeside) : Type 0 where
   pub slot_is : at.slot ≡ slot
-  pub more : before + slot + 1 < length (good_slots design plan)
+  pub fine : NoStopThrough design plan (before + slot + 1)
   pub enters : EntersSlot design plan (fault_of beside.fault) (before + slot) at.passed own at.seen at.possible
   pub place : beside.one.own.copy.fault ≡ own.copy.fault
   pub states : beside.one.own.copy.states ≡ []

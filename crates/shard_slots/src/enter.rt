@@ -1,9 +1,9 @@
 // The faults of a shard before a slot.
 
-ghost use Rattle.std.specs.Prelude.{◌≡◌, ◌+◌, ◌<◌, ◌≤◌, length, None, Some, IfOk, OnOk, slice_get};
+ghost use Rattle.std.specs.Prelude.{◌≡◌, ◌+◌, ◌<◌, ◌≤◌, None, Some, IfOk, OnOk, slice_get};
 ghost use Rattle.std.specs.List.{AllZip};
 ghost use Rattle.v_design.specs.Plain.{fault_of};
-ghost use Rattle.copy_laws.specs.Windows.{good_slots};
+ghost use Rattle.copy_lockstep.specs.Stops.{NoStopThrough};
 ghost use Rattle.copy_lockstep.specs.copy_window.ShardFaults.{SameFault};
 ghost use Rattle.copy_lockstep.specs.window_faults.Steps.{StaysFault};
 ghost use Rattle.copy_lockstep.specs.window_faults.Within.{AreWithin, IsWithin};
@@ -31,7 +31,7 @@ fn enter_open<N: World>(
     requires some { 0 < view.now.window.now.before }
     requires slot { view.now.window.now.before + at.old.slot < view.now.window.now.through }
     requires last { view.now.window.now.before + last ≤ view.now.window.now.through }
-    requires more { view.now.window.now.before + last < length (good_slots N.design N.plan) }
+    requires fine { NoStopThrough N.design N.plan (view.now.window.now.before + last) }
     requires listed { slice_get N.plan.faults own.old.copy.fault ≡ Some (fault_of fault) }
     requires none { own.old.end ≡ None }
     requires within { IsWithin N.design N.plan view.now.window.now.before view.now.window.now.through own.old at.old }
@@ -91,7 +91,7 @@ fn enter_one<N: World>(
     requires some { 0 < view.now.window.now.before }
     requires slot { view.now.window.now.before + slot < view.now.window.now.through }
     requires last { view.now.window.now.before + last ≤ view.now.window.now.through }
-    requires more { view.now.window.now.before + last < length (good_slots N.design N.plan) }
+    requires fine { NoStopThrough N.design N.plan (view.now.window.now.before + last) }
     requires within { IsWithin N.design N.plan view.now.window.now.before view.now.window.now.through own.old at.old }
     requires come { own.old.end ≡ None → slot ≤ at.old.slot }
     ensures enters { IfOk result (Enters N.design N.plan view.now.window.now.before view.now.window.now.through slot own.new at.new) }
@@ -126,7 +126,7 @@ pub(crate) fn enter_each<N: World>(
     requires some { 0 < view.now.window.now.before }
     requires slot { view.now.window.now.before + slot < view.now.window.now.through }
     requires last { view.now.window.now.before + last ≤ view.now.window.now.through }
-    requires more { view.now.window.now.before + last < length (good_slots N.design N.plan) }
+    requires fine { NoStopThrough N.design N.plan (view.now.window.now.before + last) }
     requires within { AreWithin N.design N.plan view.now.window.now.before view.now.window.now.through slot faults.old.items ats.old.items }
     ensures entered { IfOk result (λ besides. HaveEntered N.design N.plan view.now.window.now.before view.now.window.now.through slot faults.new.items ats.new.items besides.items) }
     ensures faults { OnOk result (AllZip StaysFault faults.old.items faults.new.items) }

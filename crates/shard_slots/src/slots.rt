@@ -4,6 +4,7 @@ ghost use Rattle.std.specs.Prelude.{◌≡◌, ◌+◌, ◌<◌, ◌≤◌, leng
 ghost use Rattle.std.specs.List.{AllZip, list_any};
 ghost use Rattle.vf_base.specs.Lists.{AllHold};
 ghost use Rattle.copy_laws.specs.Windows.{good_slots, time_at};
+ghost use Rattle.copy_lockstep.specs.Stops.{NoStopThrough};
 ghost use Rattle.copy_lockstep.specs.copy_room.Rooms.{IsRoom};
 ghost use Rattle.copy_lockstep.specs.graded_steps.Behind.{RisesWithin};
 ghost use Rattle.own_gradings.specs.Numbers.{RisesOwn};
@@ -87,7 +88,7 @@ fn go_slot<N: World, L: Ledger>(
     requires some { 0 < view.now.window.now.before }
     requires slot { view.now.window.now.before + slot < view.now.window.now.through }
     requires last { view.now.window.now.before + last ≤ view.now.window.now.through }
-    requires more { view.now.window.now.before + last < length (good_slots N.design N.plan) }
+    requires fine { NoStopThrough N.design N.plan (view.now.window.now.before + last) }
     requires room { IsRoom N.design machine.old }
     requires lockstep { IsLockstepRoom N.design lockstep.old.runner lockstep.old.before lockstep.old.behind lockstep.old.counts }
     requires strobes { AreStrobesOf N.design N.plan view.now.window.now.before view.now.window.now.through strobes.now }
@@ -161,7 +162,7 @@ fn go_through<N: World, L: Ledger>(
     beside_laws::faults_go_on();
     let design = setup.design();
     let mut ats = begin_each(alloc, setup, view.window, strobes, now, faults)?;
-    let last = end_of_lockstep(setup, view.window);
+    let last = end_of_lockstep(setup, view.window, strobes);
     let slots = view.window.slots();
     'slots: for slot in 0..slots {
         go_slot(

@@ -6,23 +6,35 @@ use Rattle.lockstep_due.specs.copy_window.declared.fault.ShardFault.{ShardFault}
 use Rattle.copy_lockstep.specs.Entered.{HasEntered}
 use Rattle.copy_lockstep.specs.Faults.{IsOpenAtSlot}
 use Rattle.copy_lockstep.proofs.Slots.{opens}
+use Rattle.copy_lockstep.proofs.Stops.{fewer}
 use Rattle.copy_lockstep.proofs.before.enter.Goals as goal
+
+pub pass_slots-passed-requires-clause-order : goal.pass_slots-passed-requires-clause-order
+pass_slots-passed-requires-clause-order g c κs within = omega (arith, c.requires.slot, c.if-at-last.false, c.end_of_passing.ensures.most, c.min-to.ensures)
+
+pub pass_slots-passed-requires-clause-within : goal.pass_slots-passed-requires-clause-within
+pass_slots-passed-requires-clause-within g c κs within = omega (arith, c.requires.last, c.min-to.ensures)
+
+pub pass_slots-passed-requires-clause-more : goal.pass_slots-passed-requires-clause-more
+pass_slots-passed-requires-clause-more g c κs within = omega (arith, c.end_of_passing.ensures.more, c.min-to.ensures)
 
 pub pass_slots-passed-requires-clause-fault : goal.pass_slots-passed-requires-clause-fault
 pass_slots-passed-requires-clause-fault g c κs within =
     opens c.good_run_goes_on.ensures g.N.World.design g.N.World.plan (fault_of c.args.fault) (c.args.view.now.window.now.before + c.args.at.slot) c.args.at.passed c.args.own.now
     (design-rules g.N.World.design c.design-design.result.now c.design-design.ensures.world) (record { stands = c.requires.fault; has_passed = λ none. c.requires.strobes })
-    c.requires.listed c.requires.none c.requires.some (omega (arith, c.if-at-last.false, c.requires.more))
+    c.requires.listed c.requires.none c.requires.some (omega (arith, c.requires.slot, c.end_of_passing.ensures.most, c.end_of_passing.ensures.more))
 
 pub returns-then-passed-at-clause-entered : goal.returns-then-passed-at-clause-entered
 returns-then-passed-at-clause-entered g c = record {
   since = c.if-passed-at.true;
-  by = c.pass_slots-passed.ensures.by;
+  by = omega (arith, c.pass_slots-passed.ensures.by, c.min-to.ensures);
   stands = c.pass_slots-passed.ensures.fault;
 }
 
-pub try_slot-requires-clause-next : goal.try_slot-requires-clause-next
-try_slot-requires-clause-next g c κs within = omega (arith, c.if-at-last.false, c.requires.more)
+pub try_slot-requires-clause-fine : goal.try_slot-requires-clause-fine
+try_slot-requires-clause-fine g c κs within =
+    let before = c.args.view.now.window.now.before in
+    fewer g.N.World.design g.N.World.plan (before + c.args.at.slot + 1) (before + c.args.last) (omega (arith, c.if-at-last.false)) c.requires.fine
 
 pub try_slot-requires-clause-fault : goal.try_slot-requires-clause-fault
 try_slot-requires-clause-fault g c κs within =
@@ -31,7 +43,7 @@ try_slot-requires-clause-fault g c κs within =
     (sym (c.pass_slots-passed.ensures.stays same))
     (opens c.good_run_goes_on.ensures g.N.World.design g.N.World.plan (fault_of c.args.fault) (c.args.view.now.window.now.before + c.args.at.slot) c.args.at.passed c.args.own.now
     (design-rules g.N.World.design c.design-design.result.now c.design-design.ensures.world) (record { stands = c.requires.fault; has_passed = λ none. c.requires.strobes })
-    c.requires.listed c.requires.none c.requires.some (omega (arith, c.if-at-last.false, c.requires.more)))
+    c.requires.listed c.requires.none c.requires.some (omega (arith, c.requires.slot, c.end_of_passing.ensures.most, c.end_of_passing.ensures.more)))
 
 pub returns-clause-entered : goal.returns-clause-entered
 returns-clause-entered g c =

@@ -55,7 +55,7 @@ returns-in-On-clause-enters g c =
     let told = subst (λ (e : Entered). HasEntered g.N.World.design g.N.World.plan (fault_of c.args.fault) window (record { slot = c.args.at.now.slot; passed = c.args.at.now.passed }) c.args.last c.args.own.now c.enter.new.own e) c.in-On.is
     c.in_ok-entered.ensures.entered in
     enters-there g.N.World.design g.N.World.plan window.before window.through c.args.at.now.slot window c.args.last c.in-On.entering c.args.own.now c.enter.new.own _ _ refl refl
-    c.requires.more told refl refl refl refl
+    c.requires.fine told refl refl refl refl
     (subst (λ (own : ShardFault). IsWithin g.N.World.design g.N.World.plan window.before window.through own
     (record { slot = c.args.at.now.slot; passed = c.args.at.now.passed; seen = c.in-On.entering.passed; possible = c.in-On.entering.possible })) (sym told.stays)
     (record { within = c.requires.within.within; stands = c.requires.within.stands; has_passed = c.requires.within.has_passed }))

@@ -54,8 +54,8 @@ returns-then-slot-at-clause-ticks g c tally =
     c.args.slot c.args.own.now c.args.at.now c.args.beside c.requires.went (λ at none. absurd (omega (arith, at, c.if-slot-at.true))))
 
 -- one that went through it in lockstep
-pub leave_slot-requires-clause-next : goal.leave_slot-requires-clause-next
-leave_slot-requires-clause-next g c κs within = (c.requires.went.goes c.if-goes.true).more
+pub leave_slot-requires-clause-fine : goal.leave_slot-requires-clause-fine
+leave_slot-requires-clause-fine g c κs within = (c.requires.went.goes c.if-goes.true).fine
 
 pub leave_slot-requires-clause-entered : goal.leave_slot-requires-clause-entered
 leave_slot-requires-clause-entered g c κs within = (c.requires.went.goes c.if-goes.true).enters

@@ -6,7 +6,7 @@ use Rattle.shard_windows.specs.copy_window.declared.fault.ShardFault.{ShardFault
 use Rattle.shard_windows.specs.Reached.{HasReachedIfOpen}
 use Rattle.shard_windows.proofs.Beginning.{reached_at_start}
 use Rattle.copy_shard.proofs.Joining.{no-faults, none-behind}
-use Rattle.copy_shard.proofs.together.advance_together.Goals as goal
+use Rattle.copy_shard.proofs.together.advance_joined.Goals as goal
 
 pub advance_rest-requires-clause-reached : goal.advance_rest-requires-clause-reached
 advance_rest-requires-clause-reached g c κs within =
