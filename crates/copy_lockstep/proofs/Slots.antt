@@ -29,8 +29,8 @@ use Rattle.lockstep_due.specs.slot_strobes.Strobes.{ComeBefore, IsFoundAt, IsGra
 use Rattle.copy_lockstep.specs.Entered.{EntersSlot, HasEnded}
 use Rattle.copy_lockstep.specs.Faults.{IsOpenAtSlot, MayTry, StandsAtSlot}
 use Rattle.copy_lockstep.specs.Stops.{NoStopThrough}
-use Rattle.slot_strobes.proofs.Lists.{at-drop, at-take}
-use Rattle.slot_strobes.proofs.Counted.{passed-behind}
+use Rattle.lockstep_due.proofs.slot_strobes.Lists.{at-drop, at-take}
+use Rattle.lockstep_due.proofs.slot_strobes.Counted.{passed-behind}
 use Rattle.copy_lockstep.proofs.Stops.{IsNoStop, ends-there}
 use Rattle.copy_lockstep.proofs.Within.{differences-are}
 

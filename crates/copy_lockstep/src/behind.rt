@@ -10,7 +10,7 @@ ghost use Rattle.lockstep_due.specs.lockstep_copies.Copies.{IsCopyInLockstep};
 ghost use Rattle.lockstep_due.specs.copy_window.Copies.{differences_in};
 ghost use Rattle.lockstep_due.specs.copy_window.ShardFaults.{IsShardFault, SameFault, kept_by, said_by};
 ghost use Rattle.lockstep_slot.specs.slot_laws.Copies.{lockstep_differences};
-ghost use Rattle.slot_strobes.specs.Strobes.{ComeBefore, IsGradingBehind};
+ghost use Rattle.lockstep_due.specs.slot_strobes.Strobes.{ComeBefore, IsGradingBehind};
 ghost use Rattle.strobe_detect.specs.Verdicts.{verdict_view};
 ghost use Rattle.copy_lockstep.specs.Faults.{StandsAtSlot};
 ghost use Rattle.copy_lockstep.specs.Entered.{EntersSlot};
