@@ -20,7 +20,7 @@ use crate::last::end_of_passing;
 use crate::reached::Reached;
 use fault_strobes::Strobed;
 use good_trace::{Setup, TraceWindow};
-use lockstep_due::{ShardFault, copies_go_in_lockstep, shards_go_in_lockstep};
+use lockstep_due::{ShardFault, copies_go_in_lockstep, see_to, shards_go_in_lockstep};
 use lockstep_slot::FaultInSlot;
 use std::alloc::Global;
 use strobe_detect::Grade;
