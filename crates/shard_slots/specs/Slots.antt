@@ -6,7 +6,7 @@ use Rattle.v_design.specs.Runs.{FirstSlot}
 use Rattle.copy_laws.specs.Windows.{good_slots}
 use Rattle.copy_lockstep.specs.copy_window.declared.fault.ShardFault.{ShardFault}
 use Rattle.copy_lockstep.specs.lockstep_block.Blocks.{TriedInSlot}
-use Rattle.copy_lockstep.specs.lockstep_copies.Copies.{IsCopyInLockstep, own_begins}
+use Rattle.copy_lockstep.specs.lockstep_copies.Copies.{IsCopyInLockstep}
 use Rattle.copy_lockstep.specs.slot_laws.Copies.{MayBeginSlot, lockstep_differences}
 use Rattle.copy_state.specs.Kept.{CopyKept}
 use Rattle.good_runs.specs.declared.tried.TriedStep.{TriedStep}
@@ -43,7 +43,7 @@ pub record TookOwn (design : FlatDesign) (plan : TestPlan) (fault : StuckAt) (go
   pub copy : CopyKept
   pub enters : EntersSlot design plan fault gone at.passed own at.seen at.possible
   pub may : MayBeginSlot design plan fault gone copy
-  pub in_slot : TriedInSlot design fault may.slot (own_begins design plan fault may.time may.slot) tried
+  pub in_slot : TriedInSlot design fault may.slot may.begins tried
 
 -- a fault behind a slot that others went through beside it: where it went through it in lockstep, what is kept of it stands in lockstep behind the slot; where it took own steps, it
 -- had entered the slot
