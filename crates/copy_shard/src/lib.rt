@@ -6,7 +6,8 @@
 //! once the good first run is through, `findings` has the grade of each fault. A counter rises by no more than the own steps of the faults in between: the steps
 //! of those of their runs that the good machine doesn't take as well.
 //!
-//! `advance_together` takes the claimed shards of a worker through a window side by side, with the same contract for each: so the good machine's states are gone through once for all.
+//! `advance_together` takes the claimed shards of a worker through a window side by side, sixteen at a time, with the same contract for each: so the good machine's states are gone
+//! through once for so many.
 #![tactic(auto)]
 
 mod shard;
