@@ -25,10 +25,11 @@ pub record MarksReached (design : FlatDesign) (objects : List ℕ) (one other : 
   pub only : (node : ℕ) → ((object : ℕ) → has objects object ≡ true → node_reads_at design object node ≡ false) → marked_at later node ≡ marked_at before node
 
 -- some objects come to hold other values: the good machine's with what is kept over them are these then, and nothing else that is kept changes
-pub record ComesToHold (design : FlatDesign) (good : List LogicValue) (objects : List ℕ) (values : List LogicValue) (old new : CopyKept) (before later : List Bool) : Type 0 where
+pub record ComesToHold (design : FlatDesign) (good : List LogicValue) (objects : List ℕ) (held : List LogicValue) (old new : CopyKept) (before later : List Bool) : Type 0 where
   pub rest : new ≡ record old { values = new.values }
   pub own : AreOwnValues good old.values → AreOwnValues good new.values
-  pub values : faulty_values good new.values ≡ values
+  pub values : faulty_values good new.values ≡ held
+  pub are : AreValuesOf design (faulty_values good new.values)
   pub marks : MarksReached design objects (faulty_values good old.values) (faulty_values good new.values) before later
 
 -- the good machine's values with what is kept over them hold what the faulty machine holds at the start wherever no node drives, and each node that isn't marked is settled in them

@@ -6,6 +6,4 @@ ghost use Rattle.start_copy.specs.Start.{StartsInLockstep};
 /// runs; its contract is the law.
 pub fn starts_in_lockstep()
     ensures { StartsInLockstep }
-{
-    order_laws::nets();
-}
+{}

@@ -1,15 +1,14 @@
 // The nodes that a fault reaches, in their order.
 
-ghost use Rattle.std.specs.Prelude.{◌≡◌, ℕ, ◌<◌, [], length, map, OnOk, Contains, Some, slice_get, None};
-ghost use Rattle.vf_base.specs.Base.{object_number, node_number};
-ghost use Rattle.v_design.specs.Designs.{FlatNode, good_machine, faulty_machine};
+ghost use Rattle.std.specs.Prelude.{◌≡◌, ◌<◌, [], length, OnOk, Contains, Some, slice_get};
+ghost use Rattle.vf_base.specs.Base.{node_number};
+ghost use Rattle.v_design.specs.Designs.{FlatNode, good_machine};
 ghost use Rattle.v_design.specs.Laws.{worked_on};
 ghost use Rattle.v_design.specs.Plain.{fault_of};
 ghost use Rattle.v_design.specs.PlainDesigns.{design_of};
 ghost use Rattle.v_design.specs.Sites.{sites_of};
 ghost use Rattle.v_design.specs.States.{start};
 ghost use Rattle.v_design.specs.Views.{machine_of};
-ghost use Rattle.copy_laws.specs.Differences.{Ascend};
 ghost use Rattle.copy_overlay.specs.Faulty.{faulty_values};
 ghost use Rattle.node_eval.specs.ValuesOf.{AreValuesOf};
 ghost use Rattle.net_settle.specs.Marked.{NoneMarked};
@@ -49,7 +48,9 @@ fn work_on(
 {
     evaluate(view, node, &OverGood { good, copy }, work);
     let own = &view.design.nodes.as_slice()[node.0 as usize];
-    hold_all(good, settle, copy, own.outputs.as_slice(), work.outputs())
+    let outputs = own.outputs.as_slice();
+    hold_all(good, settle, copy, outputs, work.outputs())?;
+    Ok(())
 }
 
 /// What the fault holds itself: its variable, or its node.
@@ -72,13 +73,22 @@ fn hold_site(
     ensures made { IsMadeFor (design_of view.now.design.now) work.new }
     ensures starts { OnOk result (StartsSo (design_of view.now.design.now) (fault_of fault) good.now copy.old copy.new settle.new.marks.items) }
 {
+    order_laws::nets();
+    order_laws::nodes_rest();
+    copy_laws::free_events();
     match fault.site {
         Site::Var(object, _) => {
             let own = view.forced(object, good[object.0 as usize]);
-            hold(good, settle, copy, object, own)
+            hold(good, settle, copy, object, own)?;
+            Ok(())
         }
-        Site::Out(node, _, _) | Site::Terminal(node, _) => {
-            work_on(view, good, settle, work, copy, node)
+        Site::Out(node, _, _) => {
+            work_on(view, good, settle, work, copy, node)?;
+            Ok(())
+        }
+        Site::Terminal(node, _) => {
+            work_on(view, good, settle, work, copy, node)?;
+            Ok(())
         }
     }
 }
@@ -104,8 +114,6 @@ pub fn start_copy(
     ensures room { OnOk result (IsRoomFor design.now room.new) }
 {
     order_laws::nets();
-    order_laws::nodes_rest();
-    copy_laws::free_events();
     let view = View {
         design,
         fault: Some(fault),
