@@ -38,6 +38,11 @@ shown-set good old new object own there here others =
           ∙ ap (found_or (value_at good x)) (sym (others x (λ e. other (sym e))))
     ])
 
+-- what is kept over the value that is shown
+pub found-shown : (good : List LogicValue) (values : List (ℕ × LogicValue)) (object : ℕ) (old shown : LogicValue) → old ≡ found_or shown (own_of values object) → shown ≡ value_at good object →
+    old ≡ found_or (value_at good object) (own_of values object)
+found-shown good values object old shown is same = is ∙ ap (λ v. found_or v (own_of values object)) same
+
 -- nothing has changed
 pub comes-none : (design : FlatDesign) (good : List LogicValue) (objects : List ℕ) (held : List LogicValue) (kept : CopyKept) (marks : List Bool) → faulty_values good kept.values ≡ held →
     AreValuesOf design (faulty_values good kept.values) → ComesToHold design good objects held kept kept marks marks
@@ -75,27 +80,30 @@ or-left : (b c : Bool) → (b || c) ≡ false → b ≡ false
 or-left b c e = (neither b c e).0
 
 -- an object that comes to hold another one
-pub holds-set : (design : FlatDesign) (good : List LogicValue) (objects : List ℕ) (object : ℕ) (own : LogicValue) (old new : CopyKept) (before later : List Bool) → object < length good →
+pub holds-set : (design : FlatDesign) (good : List LogicValue) (objects : List ℕ) (object : ℕ) (own shown : LogicValue) (old new : CopyKept) (before later : List Bool) → object < length good →
     AreValuesOf design (faulty_values good old.values) → length own ≡ width_in design object → has objects object ≡ true →
-    new ≡ record old { values = with_own_value object (value_at good object) own old.values } → MarksReaders design object before later →
+    new ≡ record old { values = with_own_value object shown own old.values } → shown ≡ value_at good object → MarksReaders design object before later →
     ComesToHold design good objects (set (faulty_values good old.values) object own) old new before later
-holds-set design good objects object own old new before later there are width among is marks = record {
+holds-set design good objects object own shown old new before later there are width among set_to same marks = record {
   rest = rest;
   own = λ h. record { there = stands h; differ = differs h };
-  values = shown;
-  are = subst (AreValuesOf design) (sym shown) (values-set design (faulty_values good old.values) object own are width);
+  values = holds;
+  are = subst (AreValuesOf design) (sym holds) (values-set design (faulty_values good old.values) object own are width);
   marks = record {
     stays = λ node e. or-left (marked_at before node) (node_reads_at design object node) (sym (marks node) ∙ e);
     readers = λ node other e reads. elim (cases_eq other object) [
       | inl same ↦
           (let no : true ≡ false =
           sym reads ∙ ap (λ o. node_reads_at design o node) same ∙ (neither (marked_at before node) (node_reads_at design object node) (sym (marks node) ∙ e)).1 in absurd (false≢true (sym no)))
-      | inr apart ↦ ap (λ vs. value_at vs other) shown ∙ get_or-set_other (faulty_values good old.values) object other own [] apart
+      | inr apart ↦ ap (λ vs. value_at vs other) holds ∙ get_or-set_other (faulty_values good old.values) object other own [] apart
     ];
     only = λ node none. marks node ∙ ap (λ b. marked_at before node || b) (none object among) ∙ or-false (marked_at before node);
   };
 }
   where
+    is : new ≡ record old { values = with_own_value object (value_at good object) own old.values }
+    is = set_to ∙ ap (λ v. record old { values = with_own_value object v own old.values }) same
+
     values_are : new.values ≡ with_own_value object (value_at good object) own old.values
     values_are = ap (λ (k : CopyKept). k.values) is
 
@@ -108,8 +116,8 @@ holds-set design good objects object own old new before later there are width am
     others : (other : ℕ) → object ≢ other → own_of new.values other ≡ own_of old.values other
     others other differ = ap (λ vs. own_of vs other) values_are ∙ own-set_other object other (value_at good object) own old.values differ
 
-    shown : faulty_values good new.values ≡ set (faulty_values good old.values) object own
-    shown = shown-set good old.values new.values object own there here others
+    holds : faulty_values good new.values ≡ set (faulty_values good old.values) object own
+    holds = shown-set good old.values new.values object own there here others
 
     stands : AreOwnValues good old.values → (x : ℕ) (kept : LogicValue) → own_of new.values x ≡ Some kept → x < length good
     stands h x kept e = elim (cases_eq x object) [

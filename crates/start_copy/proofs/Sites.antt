@@ -51,7 +51,7 @@ not-driven design object (node ∷ nodes) rules none =
     both-false (has node.outputs object) (list_any (λ (n : FlatNode). has n.outputs object) nodes)
     (elim (cases_Bool (has node.outputs object)) [
       | inl drives ↦ absurd (false≢true (sym none ∙ AllHold-has (λ x. has (net_pieces design) x ≡ true) node.outputs object rules.0.outputs_nets drives))
-      | inr not ↦ not
+      | inr other ↦ other
     ])
     (not-driven design object nodes rules.1 none)
 

@@ -1,6 +1,6 @@
 -- The nodes that a fault reaches, from what it holds itself to the last one.
 use Rattle.std.proofs.Common.{◌≡◌, ◌≢◌, ℕ, zero, suc, ◌+◌, ◌<◌, ◌≤◌, Bool, true, false, not, ◌&&◌, ◌||◌, List, [], ◌∷◌, map, length, get_or, set, refl, sym, ap, subst, ◌∙◌, arith, inl, inr}
-use Rattle.std.specs.Prelude.{Option, Some, None, nat_eq, slice_get}
+use Rattle.std.specs.Prelude.{Option, Some, None, option_map, nat_eq, slice_get}
 use Rattle.std.proofs.lemmas.Bool.{cases_eq, cases_lt, ne_eqb, eqb-true, eq-eqb, false≢true}
 use Rattle.std.proofs.lemmas.List.{get_or-set_same, get_or-set_other, get_or_past, length-set}
 use Rattle.vf_base.specs.Lists.{has}
@@ -8,8 +8,12 @@ use Rattle.four_value.specs.Values.{LogicValue}
 use Rattle.v_design.specs.Designs.{FlatDesign, FlatNode, FaultSite, VariableBit, Machine, StuckAt, good_machine, faulty_machine, forced_variable}
 use Rattle.v_design.specs.Assignments.{value_at, node_outputs, first_values}
 use Rattle.v_design.specs.Laws.{AreSettledBut, input_differs, marks_after, worked_on, is_driven, BeginsPhase, NetsSettle, SettledValuesAreOne, PhasesBegin}
+use Rattle.v_design.specs.Plain.{fault_of}
 use Rattle.v_design.specs.States.{start, found_or}
+use Rattle.v_design.specs.Views.{machine_of}
 use Rattle.v_design.specs.WellFormed.{KeepsRules}
+use Rattle.v_design.specs.declared.plan.Fault.{Fault}
+use Rattle.v_design.specs.declared.view.View.{View}
 use Rattle.copy_laws.specs.Differences.{own_of, Ascend}
 use Rattle.copy_laws.specs.Touches.{site_is_object, site_is_node, OtherSitesAreFree}
 use Rattle.copy_state.specs.Kept.{CopyKept}
@@ -17,6 +21,7 @@ use Rattle.copy_overlay.specs.Faulty.{faulty_values}
 use Rattle.copy_overlay.specs.FaultyLaws.{length-faulty, value-faulty, faulty-are}
 use Rattle.net_graph.specs.Tables.{reads, node_reads_at}
 use Rattle.net_settle.specs.Marked.{marked_at, NoneMarked, TakesLeast}
+use Rattle.net_state.specs.OutputLaws.{length-forced_variable}
 use Rattle.node_eval.specs.ValuesOf.{AreValuesOf}
 use Rattle.order_laws.specs.NodesRest.{NodesRestOnInputs}
 use Rattle.start_copy.specs.Reached.{AreOwnValues, MarksReached, ComesToHold, StartsSo}
@@ -189,7 +194,7 @@ starts-end design fault good old new marks settles one begin rules good_is so no
       (elim (cases_lt object (length good)) [
         | inl low ↦ ap (λ vs. value_at vs object) (sym same) ∙ value-faulty good new.values object low
         | inr past ↦
-            get_or_past (start (faulty_machine design fault)).values object [] (past-own past)
+            get_or_past (start (faulty_machine design fault)).values object [] (past-own object past)
             ∙ sym (get_or_past good object [] past)
             ∙ ap (found_or (value_at good object)) (sym (unkept object past (own_of new.values object) refl))
       ]);
@@ -205,8 +210,8 @@ starts-end design fault good old new marks settles one begin rules good_is so no
         one (faulty_machine design fault) (faulty_values good new.values) (start (faulty_machine design fault)).values rules (are-to (faulty_machine design fault) (faulty_values good new.values) so.are)
         begins.widths so.undriven (settles.ends (faulty_machine design fault) (marked_at marks) (faulty_values good new.values) none so.settled) begins.settled
 
-    past-own : {object : ℕ} → length good ≤ object → length (start (faulty_machine design fault)).values ≤ object
-    past-own past = omega (arith, past, ap length same, length-faulty good new.values)
+    past-own : (object : ℕ) → length good ≤ object → length (start (faulty_machine design fault)).values ≤ object
+    past-own object past = omega (arith, past, ap length same, length-faulty good new.values)
 
     unkept : (object : ℕ) → length good ≤ object → (found : Option LogicValue) → own_of new.values object ≡ found → own_of new.values object ≡ None
     unkept object past None e = e
@@ -228,3 +233,12 @@ pub node-below : (nodes : List FlatNode) (k : ℕ) → k < length nodes → (nod
 node-below [] k low = absurd (omega (arith, low))
 node-below (node ∷ nodes) zero low = (node, refl)
 node-below (node ∷ nodes) (suc k) low = node-below nodes k (omega (arith, low))
+
+-- what the view makes of the good machine's value
+pub forced-shown : (view : View) (fault : Fault) (own shown : LogicValue) (good : List LogicValue) (object : ℕ) → view.fault ≡ Some fault →
+    own ≡ forced_variable (machine_of view).fault object shown → shown ≡ value_at good object → own ≡ forced_variable (Some (fault_of fault)) object (value_at good object)
+forced-shown view fault own shown good object has is same = is ∙ (λ j. forced_variable (option_map fault_of (has j)) object (same j))
+
+pub forced-wide : (view : View) (own shown : LogicValue) (good : List LogicValue) (object : ℕ) → own ≡ forced_variable (machine_of view).fault object shown → shown ≡ value_at good object →
+    length own ≡ length (value_at good object)
+forced-wide view own shown good object is same = ap length is ∙ length-forced_variable (machine_of view).fault object shown ∙ ap length same

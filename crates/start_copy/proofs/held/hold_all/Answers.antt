@@ -1,4 +1,4 @@
-use Rattle.std.proofs.Common.{rules, ◌≡◌, ◌+◌, ◌<◌, [], true, get_or, length, map, take, set, sym, ap, subst, ◌∙◌, refl, arith}
+use Rattle.std.proofs.Common.{rules, ◌≡◌, ◌+◌, ◌<◌, [], true, get_or, length, map, take, set, sym, ap, subst, ◌∙◌, arith}
 use Rattle.std.proofs.lemmas.List.{get_or-map, get_or_default, length-map}
 use Rattle.vf_base.specs.Base.{object_number}
 use Rattle.vf_base.specs.Lists.{has}
@@ -6,34 +6,17 @@ use Rattle.v_design.specs.Assignments.{with_outputs}
 use Rattle.v_design.specs.Designs.{width_in}
 use Rattle.v_design.specs.PlainDesigns.{design_of}
 use Rattle.copy_overlay.specs.Faulty.{faulty_values}
-use Rattle.copy_overlay.specs.FaultyLaws.{length-faulty}
 use Rattle.graph_order.specs.ListLaws.{has-get_or}
 use Rattle.net_graph.specs.declared.graph.Graph.{Graph}
 use Rattle.net_state.specs.HeldLaws.{with_outputs-more}
 use Rattle.net_state.specs.OutputLaws.{output-there, output-width}
-use Rattle.node_eval.specs.ValuesOf.{AreValuesOf}
 use Rattle.start_copy.specs.Reached.{ComesToHold}
-use Rattle.start_copy.proofs.Holding.{comes-none, comes-more}
+use Rattle.start_copy.proofs.Holding.{comes-more}
 use Rattle.start_copy.proofs.held.hold_all.Goals as goal
-
-pub outputs-init : goal.outputs-init
-outputs-init c = record {
-  belongs = refl;
-  holds =
-      comes-none (design_of c.args.settle.now.graph.now.design.now) c.args.good.now (map object_number c.args.outputs.now) (faulty_values c.args.good.now c.args.copy.now.values) c.args.copy.now
-      c.args.settle.now.marks.items refl c.requires.are;
-}
 
 pub hold-requires-clause-there : goal.hold-requires-clause-there
 hold-requires-clause-there c =
     output-there (design_of c.args.settle.now.graph.now.design.now) c.args.outputs.now (length c.args.good.now) c.outputs.at (record { 0 = 0 }) c.requires.nets c.requires.good.count (search rules)
-
-pub hold-requires-clause-are : goal.hold-requires-clause-are
-hold-requires-clause-are c =
-    subst (λ (g : Graph). AreValuesOf (design_of g.design.now) (faulty_values c.args.good.now c.outputs.copy.values)) (sym c.outputs.invariant.belongs) c.outputs.invariant.holds.are
-
-pub hold-requires-clause-good : goal.hold-requires-clause-good
-hold-requires-clause-good c = subst (λ (g : Graph). AreValuesOf (design_of g.design.now) c.args.good.now) (sym c.outputs.invariant.belongs) c.requires.good
 
 pub hold-requires-clause-width : goal.hold-requires-clause-width
 hold-requires-clause-width c =

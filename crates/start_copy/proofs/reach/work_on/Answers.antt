@@ -9,7 +9,6 @@ use Rattle.v_design.specs.Plain.{node_of}
 use Rattle.v_design.specs.PlainDesigns.{design_of}
 use Rattle.v_design.specs.Views.{machine_of}
 use Rattle.copy_overlay.specs.Faulty.{faulty_values}
-use Rattle.node_eval.specs.ValuesOf.{AreValuesOf}
 use Rattle.net_settle.specs.NodeLaws.{at-list}
 use Rattle.net_state.specs.Held.{AreNets, HaveWidths}
 use Rattle.net_state.specs.WorkLaws.{same-node, nets-of, wide-of}
@@ -19,22 +18,15 @@ use Rattle.start_copy.proofs.reach.work_on.Goals as goal
 pub hold_all-requires-clause-nets : goal.hold_all-requires-clause-nets
 hold_all-requires-clause-nets c =
     subst (λ (d : Design). AreNets (design_of d) (map object_number c.as_slice-outputs.result.now)) (sym c.requires.belongs)
-    (nets-of c.args.view.now.design.now c.as_slice.result.now (node_number c.args.node) c.index-as_slice-own.result c.as_slice-outputs.result.now c.as_slice.ensures c.requires.node
-    c.index-as_slice-own.is c.as_slice-outputs.ensures)
+    (nets-of c.args.view.now.design.now c.as_slice.result.now (node_number c.args.node) c.index-as_slice-node.result c.as_slice-outputs.result.now c.as_slice.ensures c.requires.node
+    c.index-as_slice-node.is c.as_slice-outputs.ensures)
 
 pub hold_all-requires-clause-widths : goal.hold_all-requires-clause-widths
 hold_all-requires-clause-widths c =
     subst (λ (d : Design). HaveWidths (design_of d) (map object_number c.as_slice-outputs.result.now) c.outputs.result.now) (sym c.requires.belongs)
-    (wide-of c.args.view.now.design.now c.args.view.now.fault c.as_slice.result.now (node_number c.args.node) c.index-as_slice-own.result c.as_slice-outputs.result.now
-    (faulty_values c.args.good.now c.args.copy.now.values) c.outputs.result.now c.as_slice.ensures c.requires.node c.index-as_slice-own.is c.as_slice-outputs.ensures c.requires.are
+    (wide-of c.args.view.now.design.now c.args.view.now.fault c.as_slice.result.now (node_number c.args.node) c.index-as_slice-node.result c.as_slice-outputs.result.now
+    (faulty_values c.args.good.now c.args.copy.now.values) c.outputs.result.now c.as_slice.ensures c.requires.node c.index-as_slice-node.is c.as_slice-outputs.ensures c.requires.are
     (λ flat at. c.outputs.ensures ∙ c.evaluate.ensures.outputs flat at))
-
-pub hold_all-requires-clause-are : goal.hold_all-requires-clause-are
-hold_all-requires-clause-are c =
-    subst (λ (d : Design). AreValuesOf (design_of d) (faulty_values c.args.good.now c.args.copy.now.values)) (sym c.requires.belongs) c.requires.are
-
-pub hold_all-requires-clause-good : goal.hold_all-requires-clause-good
-hold_all-requires-clause-good c = subst (λ (d : Design). AreValuesOf (design_of d) c.args.good.now) (sym c.requires.belongs) c.requires.good
 
 pub returns-clause-holds : goal.returns-clause-holds
 returns-clause-holds c = λ flat at.
@@ -44,8 +36,8 @@ returns-clause-holds c = λ flat at.
     let outputs = map object_number c.as_slice-outputs.result.now in
     let before = c.args.settle.now.marks.items in
     let later = c.hold_all.new.settle.marks.items in
-    let own = at-list design c.as_slice.result.now number c.index-as_slice-own.result c.as_slice.ensures c.requires.node c.index-as_slice-own.is in
-    let same = same-node (slice_get (design_of design).nodes number) (node_of c.index-as_slice-own.result) flat own at in
+    let own = at-list design c.as_slice.result.now number c.index-as_slice-node.result c.as_slice.ensures c.requires.node c.index-as_slice-node.is in
+    let same = same-node (slice_get (design_of design).nodes number) (node_of c.index-as_slice-node.result) flat own at in
     let outs = ap (map object_number) c.as_slice-outputs.ensures ∙ ap (λ (f : FlatNode). f.outputs) same in
     let put = c.outputs.ensures ∙ c.evaluate.ensures.outputs flat at in
     subst (λ (d : Design). ComesToHold (design_of d) c.args.good.now flat.outputs (worked_on (machine_of c.args.view.now) number flat shown) c.args.copy.now c.hold_all.new.copy before later)

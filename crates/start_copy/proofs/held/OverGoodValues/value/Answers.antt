@@ -1,5 +1,5 @@
 use Rattle.std.proofs.Common.{◌<◌, ap, sym, subst, ◌∙◌, []}
-use Rattle.std.proofs.lemmas.List.{get_or_read}
+use Rattle.std.proofs.lemmas.List.{get_or_default}
 use Rattle.vf_base.specs.Base.{object_number}
 use Rattle.v_design.specs.States.{found_or}
 use Rattle.copy_laws.specs.Differences.{own_of}
@@ -15,5 +15,5 @@ returns c =
     let own = c.args.self.now.copy.now.values in
     let within = subst (λ n. object_number c.args.object < n) (length-faulty good own) c.requires in
     c.value.ensures
-    ∙ ap (λ v. found_or v (own_of own (object_number c.args.object))) (get_or_read good (object_number c.args.object) c.index-self-object.result within c.index-self-object.is [])
+    ∙ ap (λ v. found_or v (own_of own (object_number c.args.object))) (get_or_default good (object_number c.args.object) c.index-self-object.result [] within)
     ∙ sym (value-faulty good own (object_number c.args.object) within)
