@@ -14,7 +14,7 @@ ghost use Rattle.node_eval.specs.ValuesOf.{AreValuesOf};
 ghost use Rattle.net_settle.specs.Marked.{NoneMarked};
 ghost use Rattle.net_settle.specs.Rooms.{IsMadeFor};
 ghost use Rattle.start_copy.specs.Reached.{ComesToHold, StartsSo};
-ghost use Rattle.start_copy.specs.Rooms.{IsRoomFor};
+ghost use Rattle.start_copy.specs.Rooms.{IsRoomFor, design_in};
 ghost use Rattle.start_copy.specs.Start.{KeepsStart};
 
 use crate::held::{OverGood, hold, hold_all};
@@ -22,7 +22,7 @@ use crate::room::StartRoom;
 use copy_state::FaultCopy;
 use four_value::Vec4;
 use net_settle::{NodeWork, Settle, evaluate};
-use v_design::{Design, Fault, Site, View};
+use v_design::{Fault, Site, View};
 use vf_base::{NoMemory, NodeId};
 
 /// A node is evaluated, and its nets come to hold what it gives.
@@ -93,27 +93,27 @@ fn hold_site(
     }
 }
 
-/// The copy of a fault of a design, which keeps no values, comes to keep what the faulty machine has otherwise than the good one at the start, whose values are given. Only nodes are evaluated
-/// that the fault reaches.
+/// The copy of a fault of the room's design, which keeps no values, comes to keep what the faulty machine has otherwise than the good one at the start, whose values are given. Only nodes are
+/// evaluated that the fault reaches.
 ///
 /// # Errors
 ///
 /// Want of memory. Room and copy aren't to be used again then.
 pub fn start_copy(
-    design: &Design,
     fault: Fault,
     good: &[Vec4],
     room: &mut StartRoom,
     copy: &mut FaultCopy,
 ) -> Result<(), NoMemory>
-    requires site { Contains (sites_of (design_of design.now)) (fault_of fault).site }
-    requires good { good.now ≡ (start (good_machine (design_of design.now))).values }
-    requires room { IsRoomFor design.now room.old }
+    requires site { Contains (sites_of (design_in room.old)) (fault_of fault).site }
+    requires good { good.now ≡ (start (good_machine (design_in room.old))).values }
+    requires room { IsRoomFor (design_in room.old) room.old }
     requires empty { copy.old.values ≡ [] }
-    ensures keeps { OnOk result (KeepsStart (design_of design.now) (fault_of fault) copy.old copy.new) }
-    ensures room { OnOk result (IsRoomFor design.now room.new) }
+    ensures keeps { OnOk result (KeepsStart (design_in room.old) (fault_of fault) copy.old copy.new) }
+    ensures room { OnOk result (IsRoomFor (design_in room.old) room.new) }
 {
     order_laws::nets();
+    let design = room.settle.graph.design;
     let view = View {
         design,
         fault: Some(fault),

@@ -1,6 +1,7 @@
 // Room for the nodes that a fault reaches.
 
 ghost use Rattle.std.specs.Prelude.{IfOk};
+ghost use Rattle.v_design.specs.PlainDesigns.{design_of};
 ghost use Rattle.start_copy.specs.Rooms.{IsRoomFor};
 
 use net_graph::Graph;
@@ -22,7 +23,7 @@ impl<'d> StartRoom<'d> {
     ///
     /// Want of memory.
     pub fn new(alloc: Global, graph: &'d Graph<'d>) -> Result<StartRoom<'d>, NoMemory>
-        ensures { IfOk result (λ room. IsRoomFor graph.now.design.now room) }
+        ensures { IfOk result (λ room. IsRoomFor (design_of graph.now.design.now) room) }
     {
         let settle = Settle::settled(alloc, graph)?;
         let work = NodeWork::new(alloc, graph.design)?;

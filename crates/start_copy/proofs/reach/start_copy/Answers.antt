@@ -11,16 +11,16 @@ use Rattle.start_copy.proofs.reach.start_copy.Goals as goal
 
 pub work_on-requires-clause-good : goal.work_on-requires-clause-good
 work_on-requires-clause-good c =
-    let d = c.args.design.now in
+    let d = c.args.room.now.settle.graph.now.design.now in
     good-values (design_of d) c.args.good.now c.nets.ensures.begin (rules_hold (design_of d) d.rules) c.requires.good
 
 pub nodes-smaller : goal.nodes-smaller
 nodes-smaller c =
-    let d = c.args.design.now in
+    let d = c.args.room.now.settle.graph.now.design.now in
     let before = c.nodes.room.settle.marks.items in
     let number = node_number c.in-Some.node in
     let there = marked-there before number c.in-Some.ensures.least.was_marked in
-    let sized = c.nodes.room.settle.sized ∙ ap (λ e. length (design_of e).nodes) c.nodes.invariant.belongs in
+    let sized = c.nodes.room.settle.sized ∙ ap (λ (g : Graph). length (design_of g.design.now).nodes) c.nodes.invariant.belongs in
     let found = node-below (design_of d).nodes number (omega (arith, there, sized)) in
     let comes = c.in_ok-work_on.ensures.holds found.0 found.1 in
     front-smaller before c.work.new.self.marks.items c.work_on.new.settle.marks.items number
@@ -31,14 +31,14 @@ nodes-smaller c =
 
 pub nodes-preserved : goal.nodes-preserved
 nodes-preserved c =
-    let d = c.args.design.now in
+    let d = c.args.room.now.settle.graph.now.design.now in
     let before = c.nodes.room.settle.marks.items in
     let number = node_number c.in-Some.node in
     let there = marked-there before number c.in-Some.ensures.least.was_marked in
-    let sized = c.nodes.room.settle.sized ∙ ap (λ e. length (design_of e).nodes) c.nodes.invariant.belongs in
+    let sized = c.nodes.room.settle.sized ∙ ap (λ (g : Graph). length (design_of g.design.now).nodes) c.nodes.invariant.belongs in
     let found = node-below (design_of d).nodes number (omega (arith, there, sized)) in
     record {
-      belongs = ap (λ (g : Graph). g.design.now) (c.work_on.ensures.belongs ∙ c.work.ensures.belongs) ∙ c.nodes.invariant.belongs;
+      belongs = c.work_on.ensures.belongs ∙ c.work.ensures.belongs ∙ c.nodes.invariant.belongs;
       made = c.work_on.ensures.made;
       so =
           starts-on (design_of d) (fault_of c.args.fault) c.args.good.now c.args.copy.now c.nodes.copy c.work_on.new.copy before c.work.new.self.marks.items c.work_on.new.settle.marks.items number
@@ -47,6 +47,6 @@ nodes-preserved c =
 
 pub returns-clause-keeps : goal.returns-clause-keeps
 returns-clause-keeps c =
-    let d = c.args.design.now in
+    let d = c.args.room.now.settle.graph.now.design.now in
     starts-end (design_of d) (fault_of c.args.fault) c.args.good.now c.args.copy.now c.nodes.copy c.nodes.room.settle.marks.items c.nets.ensures.settle c.nets.ensures.one c.nets.ensures.begin
     (rules_hold (design_of d) d.rules) c.requires.good c.nodes.invariant.so c.in-None.ensures.least.0 c.ascending.ensures.values
