@@ -97,8 +97,8 @@ work_on-requires-in-Terminal-clause-good c =
     let d = c.args.view.now.design.now in
     good-values (design_of d) c.args.good.now c.nets.ensures.begin (rules_hold (design_of d) d.rules) c.requires.good
 
-pub returns-in-Var-clause-starts : goal.returns-in-Var-clause-starts
-returns-in-Var-clause-starts c =
+pub returns-in_ok-hold-in-Var-clause-starts : goal.returns-in_ok-hold-in-Var-clause-starts
+returns-in_ok-hold-in-Var-clause-starts c =
     let d = c.args.view.now.design.now in
     let good = c.args.good.now in
     let object = object_number c.in-Var.object in
@@ -116,8 +116,8 @@ returns-in-Var-clause-starts c =
     (forced-shown c.args.view.now c.args.fault c.forced-own.result _ good object c.requires.fault c.forced-own.ensures (cc))
     (subst (λ (e : Design). ComesToHold (design_of e) good (object ∷ []) held c.args.copy.now c.hold.new.copy c.args.settle.now.marks.items c.hold.new.settle.marks.items) c.requires.belongs comes)
 
-pub returns-in-Out-clause-starts : goal.returns-in-Out-clause-starts
-returns-in-Out-clause-starts c =
+pub returns-in_ok-work_on-in-Out-clause-starts : goal.returns-in_ok-work_on-in-Out-clause-starts
+returns-in_ok-work_on-in-Out-clause-starts c =
     let d = c.args.view.now.design.now in
     let good = c.args.good.now in
     let number = node_number c.in-Out.node in
@@ -130,8 +130,8 @@ returns-in-Out-clause-starts c =
     (subst (λ (m : Machine). ComesToHold (design_of d) good found.0.outputs (worked_on m number found.0 (faulty_values good c.args.copy.now.values)) c.args.copy.now c.work_on.new.copy
     c.args.settle.now.marks.items c.work_on.new.settle.marks.items) machine (c.in_ok-work_on.ensures.holds found.0 found.1))
 
-pub returns-in-Terminal-clause-starts : goal.returns-in-Terminal-clause-starts
-returns-in-Terminal-clause-starts c =
+pub returns-in_ok-work_on-in-Terminal-clause-starts : goal.returns-in_ok-work_on-in-Terminal-clause-starts
+returns-in_ok-work_on-in-Terminal-clause-starts c =
     let d = c.args.view.now.design.now in
     let good = c.args.good.now in
     let number = node_number c.in-Terminal.node in

@@ -23,10 +23,8 @@ nodes-smaller c =
     let sized = c.nodes.room.settle.sized ∙ ap (λ (g : Graph). length (design_of g.design.now).nodes) c.nodes.invariant.belongs in
     let found = node-below (design_of d).nodes number (omega (arith, there, sized)) in
     let comes = c.in_ok-work_on.ensures.holds found.0 found.1 in
-    front-smaller before c.work.new.self.marks.items c.work_on.new.settle.marks.items number
-    (c.work_on.new.settle.sized
-    ∙ ap (λ (g : Graph). length (design_of g.design.now).nodes) (c.work_on.ensures.belongs ∙ c.work.ensures.belongs)
-    ∙ sym c.nodes.room.settle.sized) c.in-Some.ensures.least
+    let graph = ap (λ (g : Graph). length (design_of g.design.now).nodes) (c.work_on.ensures.belongs ∙ c.work.ensures.belongs) in
+    front-smaller before c.work.new.self.marks.items c.work_on.new.settle.marks.items number (omega (arith, c.work_on.new.settle.sized, c.nodes.room.settle.sized, graph)) c.in-Some.ensures.least
     (λ k low. comes.marks.only k (λ object drives. reads-none (design_of d) number found.0 (rules_hold (design_of d) d.rules) found.1 k low object drives))
 
 pub nodes-preserved : goal.nodes-preserved
@@ -49,4 +47,4 @@ pub returns-clause-keeps : goal.returns-clause-keeps
 returns-clause-keeps c =
     let d = c.args.room.now.settle.graph.now.design.now in
     starts-end (design_of d) (fault_of c.args.fault) c.args.good.now c.args.copy.now c.nodes.copy c.nodes.room.settle.marks.items c.nets.ensures.settle c.nets.ensures.one c.nets.ensures.begin
-    (rules_hold (design_of d) d.rules) c.requires.good c.nodes.invariant.so c.in-None.ensures.least.0 c.ascending.ensures.values
+    (rules_hold (design_of d) d.rules) c.requires.good c.nodes.invariant.so c.in_default.ensures.least.0 c.ascending.ensures.values
