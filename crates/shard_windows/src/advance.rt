@@ -49,7 +49,9 @@ fn begin_one<N: World, L: Ledger>(
     }
     let fault = listed_fault(setup, &own.copy);
     let end = window.slots();
-    begin_fault(alloc, setup, window, end, strobes, fault, log, own, steps)?;
+    begin_fault(
+        alloc, setup, window, end, strobes, fault, &[], log, own, steps,
+    )?;
     Ok(())
 }
 
