@@ -12,7 +12,7 @@ use Rattle.copy_state.specs.Kept.{CopyKept}
 use Rattle.grade_laws.specs.Grading.{good_stop}
 use Rattle.beside_laws.specs.GoodRuns.{GoodRunGoesOn}
 use Rattle.fault_strobes.specs.Strobes.{StrobedFaultsGoOn}
-use Rattle.lockstep_due.specs.lockstep_copies.Copies.{IsCopyInLockstep}
+use Rattle.lockstep_due.specs.lockstep_copies.Copies.{IsCopyInLockstep, own_begins}
 use Rattle.lockstep_due.specs.window_strobes.Passed.{HasPassed}
 use Rattle.lockstep_due.specs.copy_window.Copies.{differences_in}
 use Rattle.fault_strobes.specs.Said.{Judging}
@@ -120,14 +120,18 @@ module _ (law : ShardsGoInLockstep) (good : GoodRunGoesOn) (design : FlatDesign)
     pub may-begin : MayBeginSlot design plan fault gone own.copy
     may-begin = record {
       none = no-states;
-      before = m.number;
-      number_is = m.gone_is;
-      time = m.time;
-      lockstep =
-          subst (IsCopyInLockstep design plan fault m.number m.time) (differences-are design own.copy (law.no_states design plan fault m.number m.time own.copy m.lockstep)) m.lockstep;
       slot = one.slot;
       stands = one.there;
       fine = one.fine;
+      begins = own_begins design plan fault m.time one.slot;
+      given = inl (record {
+        before = m.number;
+        number_is = m.gone_is;
+        time = m.time;
+        lockstep =
+            subst (IsCopyInLockstep design plan fault m.number m.time) (differences-are design own.copy (law.no_states design plan fault m.number m.time own.copy m.lockstep)) m.lockstep;
+        begins_is = refl;
+      });
     }
 
     module _ (new : CopyKept) (states : new.states ≡ []) (after : IsCopyInLockstep design plan fault gone one.slot.begins.time (lockstep_differences new)) where

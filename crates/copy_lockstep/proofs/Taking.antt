@@ -10,7 +10,7 @@ use Rattle.v_design.specs.Designs.{FlatDesign, Machine, StuckAt, TestPlan, good_
 use Rattle.v_design.specs.Grades.{Fine, Hyper, Race, SlotOutcome, phases, slot_outcome}
 use Rattle.v_design.specs.OwnSteps.{CountsOwn, ProcessRun, slots_through_stop}
 use Rattle.v_design.specs.Runs.{FirstSlot, first_run, next_slot_at, only_if}
-use Rattle.v_design.specs.States.{PostponedTurn, State, TimeTurn, TurnKind, UpdatesTurn, time_turn, turn_of}
+use Rattle.v_design.specs.States.{PostponedTurn, State, TimeTurn, TurnKind, UpdatesTurn, start, time_turn, turn_of}
 use Rattle.v_design.specs.WellFormed.{KeepsRules}
 use Rattle.order_laws.specs.FirstRuns.{FirstRunsGoOn, Follow, Rise}
 use Rattle.machine_laws.specs.SlotLoop.{slot_from}
@@ -35,7 +35,7 @@ use Rattle.lockstep_due.specs.copy_window.ShardFaults.{kept_by, said_by}
 use Rattle.window_beside.specs.Tried.{WasTried}
 use Rattle.lockstep_due.specs.copy_window.declared.fault.ShardFault.{ShardFault}
 use Rattle.lockstep_slot.specs.lockstep_block.Blocks.{TriedInSlot}
-use Rattle.lockstep_slot.specs.slot_laws.Copies.{MayBeginSlot, lockstep_differences}
+use Rattle.lockstep_slot.specs.slot_laws.Copies.{BeginsBehind, BeginsFirst, MayBeginSlot, lockstep_differences}
 use Rattle.strobe_detect.specs.Graders.{GraderState}
 use Rattle.fault_strobes.specs.Said.{Judging, ending_strobes, plan_by}
 use Rattle.fault_strobes.proofs.Ends.{ending-hold}
@@ -164,24 +164,25 @@ module _ (law : StepLaws) (design : FlatDesign) (plan : TestPlan) (rules : Keeps
 -- The faulty machine's slot
 
 module _ (law : StepLaws) (design : FlatDesign) (plan : TestPlan) (fault : StuckAt) (gone first passed : ℕ) (possible : Option ℕ) (copy : CopyKept) (old : ShardFault)
-    (en : EntersSlot design plan fault gone first old passed possible) (may : MayBeginSlot design plan fault gone copy) where
+    (en : EntersSlot design plan fault gone first old passed possible) (may : MayBeginSlot design plan fault gone copy)
+    (from : BeginsBehind design plan fault gone copy may.slot may.begins) where
   rules : KeepsRules design
-  rules = may.lockstep.rules
+  rules = from.lockstep.rules
 
   abbrev time : ℕ
   time = may.slot.begins.time
 
   abbrev begins : State
-  begins = own_begins design plan fault may.time may.slot
+  begins = own_begins design plan fault from.time may.slot
 
   abbrev state : State
-  state = state_at (faulty_machine design fault) plan.end may.time
+  state = state_at (faulty_machine design fault) plan.end from.time
 
-  there : slice_get (good_slots design plan) (suc may.before) ≡ Some may.slot
-  there = ap (slice_get (good_slots design plan)) (sym may.number_is) ∙ may.stands
+  there : slice_get (good_slots design plan) (suc from.before) ≡ Some may.slot
+  there = ap (slice_get (good_slots design plan)) (sym from.number_is) ∙ may.stands
 
-  next : BeginNextInLockstep design plan fault may.time (lockstep_differences copy) may.slot
-  next = law.copies.begins design plan fault may.before may.time (lockstep_differences copy) may.slot may.lockstep there
+  next : BeginNextInLockstep design plan fault from.time (lockstep_differences copy) may.slot
+  next = law.copies.begins design plan fault from.before from.time (lockstep_differences copy) may.slot from.lockstep there
 
   leads-to : LeadsTo design plan gone time
   leads-to = leads law design plan rules gone may.slot may.stands may.fine
@@ -189,22 +190,22 @@ module _ (law : StepLaws) (design : FlatDesign) (plan : TestPlan) (fault : Stuck
   by-end : time ≤ plan.end
   by-end = law.good.within design plan gone may.slot rules may.stands
 
-  early : may.time < time
-  early = may.lockstep.before may.slot there
+  early : from.time < time
+  early = from.lockstep.before may.slot there
 
-  by-then : may.time ≤ plan.end
+  by-then : from.time ≤ plan.end
   by-then = omega (arith, early, by-end)
 
   -- It comes after the slot before, and up to this one
 
-  time-there : time_at design plan gone ≡ Some may.lockstep.last.begins.time
-  time-there = time-between design plan gone (record { number = may.before; last = may.lockstep.last; next = may.slot; at_is = may.number_is; here = may.lockstep.stands; there = there })
+  time-there : time_at design plan gone ≡ Some from.lockstep.last.begins.time
+  time-there = time-between design plan gone (record { number = from.before; last = from.lockstep.last; next = may.slot; at_is = from.number_is; here = from.lockstep.stands; there = there })
 
   comes-since : comes_after (time_at design plan gone) time ≡ true
   comes-since =
-      let since : may.lockstep.last.begins.time ≤ may.time = may.lockstep.since in
+      let since : from.lockstep.last.begins.time ≤ from.time = from.lockstep.since in
       subst (λ (t : Option ℕ). comes_after t time ≡ true) (sym time-there)
-      (lt-ltb may.lockstep.last.begins.time time (omega (arith, since, early)))
+      (lt-ltb from.lockstep.last.begins.time time (omega (arith, since, early)))
 
   comes-up : comes_by (time_at design plan (suc gone)) time ≡ true
   comes-up = subst (λ (t : Option ℕ). comes_by t time ≡ true) (sym leads-to.time_is) (le-leb time leads-to.time leads-to.since)
@@ -259,7 +260,7 @@ module _ (law : StepLaws) (design : FlatDesign) (plan : TestPlan) (fault : Stuck
   goes-past : StopsAfter (time - 1) (faulty_stop design plan fault)
   goes-past =
       (law.runs.stands (faulty_machine design fault) plan.end (time - 1) (Some begins) state
-      (law.runs.passes (faulty_machine design fault) plan.end (Some may.time) (Some begins) state (time - 1) next.own_next (omega (arith, early))
+      (law.runs.passes (faulty_machine design fault) plan.end (Some from.time) (Some begins) state (time - 1) next.own_next (omega (arith, early))
       (λ found is. (let same : time ≡ found.time = ap (λ (s : State). s.time) (some-state begins found is) in omega (arith, same, early))))).1
 
   not-ended : HasNotEnded design P fault (time - 1)
@@ -284,10 +285,10 @@ module _ (law : StepLaws) (design : FlatDesign) (plan : TestPlan) (fault : Stuck
   among : StandsAmong
   among = go found.slots found.follow found.parts
     where
-      found : SlotsAhead (faulty_machine design fault) plan.end (Some may.time) (Some begins)
+      found : SlotsAhead (faulty_machine design fault) plan.end (Some from.time) (Some begins)
       found =
-          subst (SlotsAhead (faulty_machine design fault) plan.end (Some may.time)) next.own_turns
-          (law.takes.again (faulty_machine design fault) plan.end may.time rules by-then may.lockstep.own_on)
+          subst (SlotsAhead (faulty_machine design fault) plan.end (Some from.time)) next.own_turns
+          (law.takes.again (faulty_machine design fault) plan.end from.time rules by-then from.lockstep.own_on)
 
       go : (slots : List FirstSlot) → Follow (faulty_machine design fault) plan.end (Some begins) slots → first_run (faulty_machine design fault) plan.end ≡ found.behind ++ slots → StandsAmong
       go [] follow are = absurd follow
@@ -313,17 +314,17 @@ module _ (law : StepLaws) (design : FlatDesign) (plan : TestPlan) (fault : Stuck
   abbrev first-begins : State
   first-begins = own_begins design plan fault en.may.time may.slot
 
-  low : en.may.time ≤ may.time
+  low : en.may.time ≤ from.time
   low =
-      let same : en.may.time ≡ may.lockstep.last.begins.time =
-      some-time en.may.time may.lockstep.last.begins.time (sym en.may.behind.time_is ∙ (ap (time_at design plan) (sym en.may.gone_is) ∙ time-there)) in
-      let since : may.lockstep.last.begins.time ≤ may.time = may.lockstep.since in
+      let same : en.may.time ≡ from.lockstep.last.begins.time =
+      some-time en.may.time from.lockstep.last.begins.time (sym en.may.behind.time_is ∙ (ap (time_at design plan) (sym en.may.gone_is) ∙ time-there)) in
+      let since : from.lockstep.last.begins.time ≤ from.time = from.lockstep.since in
       omega (arith, same, since)
 
   same-state : state ≡ state_at (faulty_machine design fault) plan.end en.may.time
   same-state =
-      (law.runs.stands (faulty_machine design fault) plan.end may.time (Some first-begins) (state_at (faulty_machine design fault) plan.end en.may.time)
-      (law.runs.passes (faulty_machine design fault) plan.end (Some en.may.time) (Some first-begins) (state_at (faulty_machine design fault) plan.end en.may.time) may.time from-there.own_next low
+      (law.runs.stands (faulty_machine design fault) plan.end from.time (Some first-begins) (state_at (faulty_machine design fault) plan.end en.may.time)
+      (law.runs.passes (faulty_machine design fault) plan.end (Some en.may.time) (Some first-begins) (state_at (faulty_machine design fault) plan.end en.may.time) from.time from-there.own_next low
       (λ found is. (let same : time ≡ found.time = ap (λ (s : State). s.time) (some-state first-begins found is) in omega (arith, same, early))))).0
 
   there-fault : en.may.behind.stands.fault ≡ fault
@@ -366,8 +367,75 @@ module _ (law : StepLaws) (design : FlatDesign) (plan : TestPlan) (fault : Stuck
         (append-nil (runs_between design P (time_at design plan gone) (time_at design plan (suc gone)) fault)) each) in
         omega (arith, one)
 
+-- The first slot
+
+first-of : (machine : Machine) (end : ℕ) (begins : State) (slots : List FirstSlot) → Follow machine end (Some begins) slots → (ahead : List FirstSlot) × (slots ≡ slot_from machine begins ∷ ahead)
+first-of machine end begins [] follow = absurd follow
+first-of machine end begins (slot ∷ slots) follow = (slots, ap (λ (s : FirstSlot). s ∷ slots) follow.0)
+
+module _ (law : StepLaws) (design : FlatDesign) (plan : TestPlan) (fault : StuckAt) (kept : Bool) (copy : CopyKept) (may : MayBeginSlot design plan fault 0 copy)
+    (from : BeginsFirst design fault 0 copy may.begins) (tried : List TriedStep) (own : TriedInSlot design fault may.slot (start (faulty_machine design fault)) tried) where
+  -- the plan by whose strobes its grading ends
+  abbrev by : TestPlan
+  by = plan_by kept plan
+
+  abbrev faulty : Machine
+  faulty = faulty_machine design fault
+
+  at-start : may.slot.begins.time ≡ 0
+  at-start = law.good.first design plan may.slot from.rules may.stands
+
+  were-first : WereTried (good_machine design) faulty (phases (good_machine design) may.slot) (start faulty) tried
+  were-first = record { to = own.to; comes = own.comes; begins_is = own.begins_is; own = own.own }
+
+  pub first-again : WasTried design by 0 fault tried
+  first-again = record {
+    slot = may.slot;
+    stands = may.stands;
+    begins = start faulty;
+    at_time = sym at-start;
+    in_run = record {
+      number = 0;
+      stands = λ time low.
+          (let is = first-of faulty time (start faulty) (first_run faulty time) (law.first.follow faulty time from.rules) in ap (λ (l : List FirstSlot). slice_get l 0) is.1);
+    };
+    within = omega arith;
+    were = were-first;
+  }
+
+  pub first-takes : (counter : ℕ) → RiseAtMostOwn design by 0 1 (fault ∷ []) counter (counter + length tried)
+  first-takes counter counts each =
+      let is = first-of faulty plan.end (start faulty) (first_run faulty plan.end) (law.first.follow faulty plan.end from.rules) in
+      let leads-on = leads law design plan from.rules 0 may.slot may.stands may.fine in
+      let found : find (λ (other : FirstSlot). nat_eq other.begins.time 0) (first_run (good_machine design) plan.end) ≡ Some may.slot =
+      subst (λ (time : ℕ). find (λ (other : FirstSlot). nat_eq other.begins.time time) (first_run (good_machine design) plan.end) ≡ Some may.slot) at-start
+      (find-at (first_run (good_machine design) plan.end) 0 may.slot (law.first.rise (good_machine design) plan.end from.rules)
+      (through-get (good_machine design) (first_run (good_machine design) plan.end) 0 may.slot may.stands)) in
+      let one =
+      law.rise.slot design by fault None (time_at design plan 1) [] is.0 (slot_from faulty (start faulty)) (length tried) is.1 refl
+      (subst (λ (t : Option ℕ). comes_by t 0 ≡ true) (sym leads-on.time_is) (le-leb 0 leads-on.time (omega arith))) (λ ended has. omega arith)
+      (law.tried.within (good_machine design) faulty (first_run (good_machine design) plan.end) (Some may.slot) (start faulty) tried found were-first) counts
+      (subst (λ (l : List (Option ProcessRun × ProcessRun)). AllZip CountsOwn l counts) (append-nil (runs_between design by None (time_at design plan 1) fault)) each) in
+      omega (arith, one)
+
 pub slots-take : StepLaws → SlotsTakeOwn
 slots-take law = record {
-  entered = λ design plan fault gone before passed possible copy own tried counter en may in_slot. takes law design plan fault gone before passed possible copy own en may tried in_slot counter;
-  again = λ design plan fault gone before passed possible copy own tried en may in_slot. takes-again law design plan fault gone before passed possible copy own en may tried in_slot;
+  entered = λ design plan fault gone before passed possible copy own tried counter en may in_slot. elim may.given [
+    | inl from ↦ takes law design plan fault gone before passed possible copy own en may from tried
+        (subst (λ (begins : State). TriedInSlot design fault may.slot begins tried) from.begins_is in_slot) counter
+    | inr from ↦ absurd (let never : gone ≡ 0 = from.number_is in let some = en.may.gone_is in omega (arith, never, some))
+  ];
+  again = λ design plan fault gone before passed possible copy own tried en may in_slot. elim may.given [
+    | inl from ↦ takes-again law design plan fault gone before passed possible copy own en may from tried
+        (subst (λ (begins : State). TriedInSlot design fault may.slot begins tried) from.begins_is in_slot)
+    | inr from ↦ absurd (let never : gone ≡ 0 = from.number_is in let some = en.may.gone_is in omega (arith, never, some))
+  ];
+  first = λ design plan fault kept copy tried counter may in_slot. elim may.given [
+    | inl from ↦ absurd (let some : 0 ≡ suc from.before = from.number_is in omega (arith, some))
+    | inr from ↦ first-takes law design plan fault kept copy may from tried (subst (λ (begins : State). TriedInSlot design fault may.slot begins tried) from.begins_is in_slot) counter
+  ];
+  first_again = λ design plan fault kept copy tried may in_slot. elim may.given [
+    | inl from ↦ absurd (let some : 0 ≡ suc from.before = from.number_is in omega (arith, some))
+    | inr from ↦ first-again law design plan fault kept copy may from tried (subst (λ (begins : State). TriedInSlot design fault may.slot begins tried) from.begins_is in_slot)
+  ];
 }
