@@ -1,4 +1,5 @@
 pub mod Stops
+mod First
 mod Passing
 mod Slots
 mod Taking

@@ -12,6 +12,7 @@
 mod before;
 mod behind;
 mod entered;
+mod first;
 mod last;
 mod pass;
 mod reached;
@@ -20,13 +21,15 @@ mod steps;
 pub use before::enter;
 pub use behind::leave_slot;
 pub use entered::{Entered, Entering};
+pub use first::leave_first;
 pub use last::end_of_lockstep;
 pub use lockstep_due::{
     Machine, ShardFault, WindowStrobes, begin_fault, empty_log, new_fault, new_room,
     searches_begin, strobes_of,
 };
 pub use lockstep_slot::{
-    FaultBeside, FaultInSlot, LockstepRoom, LockstepWindow, NextTouches, all_through_slot, rests,
+    FaultBeside, FaultInSlot, LockstepRoom, LockstepWindow, NextTouches, all_through_slot,
+    enter_slot, rests,
 };
 pub use reached::Reached;
 pub use steps::slots_take_own;
