@@ -22,6 +22,50 @@ use v_design::World;
 use vf_base::{NoMemory, Steps};
 use window_faults::{FaultAt, comes_to, run_whole};
 
+/// A fault that went through a slot in lockstep, behind it. The answer is how far it has come then.
+fn leave_going<N: World>(
+    alloc: Global,
+    setup: &Setup<'_, N>,
+    window: &TraceWindow<N>,
+    fault: Fault,
+    one: FaultInSlot,
+    own: &mut ShardFault,
+    at: FaultAt,
+    slot: u32,
+) -> Result<FaultAt, NoMemory>
+    requires slot { window.now.before + slot < window.now.through }
+    requires fine { NoStopThrough N.design N.plan (window.now.before + slot + 1) }
+    requires more { window.now.before ≡ 0 → 1 < length (good_slots N.design N.plan) }
+    requires none { own.old.end ≡ None }
+    requires listed { slice_get N.plan.faults own.old.copy.fault ≡ Some (fault_of fault) }
+    requires entered { EntersAt N.design N.plan (fault_of fault) (window.now.before + slot) own.old at }
+    requires through { (first : FirstSlot) → slice_get (good_slots N.design N.plan) (window.now.before + slot) ≡ Some first →
+        IsCopyInLockstep N.design N.plan (fault_of fault) (window.now.before + slot) first.begins.time (lockstep_differences one.own.copy) }
+    requires states { one.own.copy.states ≡ [] }
+    requires place { one.own.copy.fault ≡ own.old.copy.fault }
+    ensures slot { IfOk result (λ came. came.slot ≡ slot + 1) }
+    ensures fault { IfOk result (λ came. StandsAtSlot N.design N.plan (window.now.before + (slot + 1)) came.passed own.new) }
+    ensures place { OnOk result (SameFault own.old own.new) }
+{
+    if window.begins() == 0 {
+        let passed = leave_first(alloc, setup, window, fault, one, own)?;
+        return Ok(comes_to(1, passed));
+    }
+    let reached = leave_slot(
+        alloc,
+        setup,
+        window,
+        fault,
+        one,
+        at.passed,
+        at.seen,
+        at.possible,
+        own,
+        slot,
+    )?;
+    Ok(comes_to(reached.slot, reached.passed))
+}
+
 /// A fault behind a slot: it went through it in lockstep, or it is run whole through it, if it hasn't passed it.
 fn leave_one<N: World, L: Ledger>(
     alloc: Global,
@@ -36,7 +80,7 @@ fn leave_one<N: World, L: Ledger>(
     slot: u32,
     steps: &mut Steps<L>,
 ) -> Result<(), NoMemory>
-    requires some { 0 < window.now.before }
+    requires one { window.now.before ≡ 0 → window.now.through ≡ 1 }
     requires slot { window.now.before + slot < window.now.through }
     requires room { IsRoom N.design machine.old }
     requires strobes { AreStrobesOf N.design N.plan window.now.before window.now.through strobes.now }
@@ -65,23 +109,19 @@ fn leave_one<N: World, L: Ledger>(
         ..
     } = beside;
     if goes {
-        let reached = leave_slot(
-            alloc,
-            setup,
-            window,
-            fault,
-            one,
-            at.passed,
-            at.seen,
-            at.possible,
-            own,
-            slot,
-        )?;
-        *at = comes_to(reached.slot, reached.passed);
+        let came = leave_going(alloc, setup, window, fault, one, own, *at, slot)?;
+        *at = came;
         return Ok(());
     }
     // What it took itself in the slot isn't taken again.
     let FaultInSlot { tried, .. } = one;
+    if window.begins() == 0 {
+        begin_fault(
+            alloc, setup, window, 1, strobes, fault, &tried, log, own, steps,
+        )?;
+        *at = comes_to(1, count_behind(setup, strobes));
+        return Ok(());
+    }
     let came = run_whole(
         alloc, setup, window, strobes, fault, &tried, machine, log, own, *at, steps,
     )?;
@@ -107,7 +147,7 @@ pub(crate) fn leave_each<N: World, L: Ledger>(
     slot: u32,
     steps: &mut Steps<L>,
 ) -> Result<(), NoMemory>
-    requires some { 0 < window.now.before }
+    requires one { window.now.before ≡ 0 → window.now.through ≡ 1 }
     requires slot { window.now.before + slot < window.now.through }
     requires room { IsRoom N.design machine.old }
     requires strobes { AreStrobesOf N.design N.plan window.now.before window.now.through strobes.now }

@@ -9,6 +9,6 @@ mod at;
 mod begin;
 mod whole;
 
-pub use at::{FaultAt, comes_to};
+pub use at::{FaultAt, comes_to, count_behind};
 pub use begin::{begin_each, listed_fault};
 pub use whole::run_whole;

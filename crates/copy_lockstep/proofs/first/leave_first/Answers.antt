@@ -68,7 +68,7 @@ see_behind-requires-clause-time g c κs within =
     let zero : slot.begins.time ≡ 0 = c.good_run_goes_on.ensures.first design plan slot rules here in
     let on = subst (λ (t : ℕ). StopsAfter t (faulty_stop design plan fault)) zero (c.requires.through slot here).own_on in
     subst (λ (t : ℕ). (state_at (faulty_machine design fault) plan.end t).time ≡ t) (sym (is ∙ zero))
-    (on-time c.runs_stand.ensures c.first_run_goes_on.ensures c.own_runs.ensures.times design plan fault rules on)
+    (on-time c.runs_stand.ensures c.first_run_goes_on.ensures c.own_runs.ensures.time design plan fault rules on)
 
 pub see_behind-requires-clause-listed : goal.see_behind-requires-clause-listed
 see_behind-requires-clause-listed g c κs within = ap (slice_get g.N.World.plan.faults) c.requires.place ∙ c.requires.listed
