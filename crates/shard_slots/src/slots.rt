@@ -43,7 +43,7 @@ fn some_goes(besides: &[FaultBeside]) -> bool
 }
 
 /// Takes the faults that entered a slot in lockstep through it, side by side.
-fn go_beside<N: World, L: Ledger>(
+pub(crate) fn go_beside<N: World, L: Ledger>(
     alloc: Global,
     setup: &Setup<'_, N>,
     view: &LockstepWindow<'_, N>,
@@ -175,7 +175,7 @@ fn go_through<N: World, L: Ledger>(
 }
 
 /// A window of the good first run as faults in lockstep look at it.
-fn view_of<'w, N: World>(run: &'w RunWindow<N>) -> LockstepWindow<'w, N>
+pub(crate) fn view_of<'w, N: World>(run: &'w RunWindow<N>) -> LockstepWindow<'w, N>
     ensures window { result.window.now ≡ run.now }
     ensures one { AreOfOneWindow result.window.now result.blocks.now result.wakes.now }
 {
@@ -215,6 +215,7 @@ pub fn go_through_window<'d, N: World, L: Ledger>(
     let mut machine = room.machine;
     let mut lockstep = room.lockstep;
     let mut touches = room.touches;
+    let start = room.start;
     let view = view_of(run);
     go_through(
         alloc,
@@ -233,5 +234,6 @@ pub fn go_through_window<'d, N: World, L: Ledger>(
         machine,
         lockstep,
         touches,
+        start,
     })
 }

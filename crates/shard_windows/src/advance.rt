@@ -1,8 +1,10 @@
 // Faults through a window.
 
-ghost use Rattle.std.specs.Prelude.{◌≡◌, IfOk, OnOk};
+ghost use Rattle.std.specs.Prelude.{◌≡◌, true, IfOk, OnOk};
 ghost use Rattle.std.specs.List.{AllZip, list_any};
 ghost use Rattle.vf_base.specs.Lists.{AllHold};
+ghost use Rattle.copy_laws.specs.Windows.{IsOpen};
+ghost use Rattle.good_trace.specs.Slots.{end_of};
 ghost use Rattle.own_gradings.specs.Numbers.{RisesOwn};
 ghost use Rattle.shard_slots.specs.window_strobes.Passed.{HasPassed};
 ghost use Rattle.shard_slots.specs.window_strobes.Strobes.{AreStrobesOf, passed_behind};
@@ -14,10 +16,11 @@ ghost use Rattle.shard_windows.specs.Reached.{HasReachedIfOpen, IsTimeOf, is_ope
 use crate::reached::{Reached, reached_behind};
 use crate::room::ShardRoom;
 use causal_monitor::SlotLog;
-use good_trace::{Setup, TraceWindow};
+use good_trace::{GoodEnd, Setup, TraceWindow};
 use run_trace::RunWindow;
 use shard_slots::{
-    ShardFault, WindowStrobes, begin_fault, go_through_window, listed_fault, strobes_of,
+    ShardFault, WindowStrobes, begin_fault, go_through_first, go_through_window, listed_fault,
+    strobes_of,
 };
 use std::alloc::Global;
 use std::sync::ledger::Ledger;
@@ -79,6 +82,17 @@ fn begin_each<N: World, L: Ledger>(
     Ok(())
 }
 
+/// Whether the good machine goes on behind a window that ends so.
+fn goes_on(ending: GoodEnd) -> bool
+    ensures { result ≡ true → end_of ending ≡ IsOpen }
+{
+    match ending {
+        GoodEnd::Open => true,
+        GoodEnd::Through => false,
+        GoodEnd::Raced(_) => false,
+    }
+}
+
 /// Takes some faults through a window; `now` is the time, in steps, of the last slot before it.
 fn advance_each<'d, N: World, L: Ledger>(
     alloc: Global,
@@ -99,6 +113,13 @@ fn advance_each<'d, N: World, L: Ledger>(
         steps.old steps.new) }
 {
     let trace = window.window();
+    if trace.begins() == 0 && trace.slots() == 1 && goes_on(strobes.ending) {
+        let slots = room.take_slots(alloc, setup)?;
+        let log = &mut room.log;
+        let slots = go_through_first(alloc, setup, window, strobes, slots, log, faults, steps)?;
+        room.put_slots(slots);
+        return Ok(());
+    }
     if trace.begins() == 0 {
         let log = &mut room.log;
         begin_each(alloc, setup, trace, strobes, log, faults, steps)?;
