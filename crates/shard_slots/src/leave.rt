@@ -1,26 +1,35 @@
 // The faults of a shard behind a slot.
 
-ghost use Rattle.std.specs.Prelude.{◌≡◌, ◌+◌, ◌<◌, ◌≤◌, None, OnOk, length, sum_by};
+ghost use Rattle.std.specs.Prelude.{◌≡◌, ◌+◌, ◌<◌, ◌≤◌, [], None, IfOk, OnOk, Some, length, slice_get, sum_by};
 ghost use Rattle.std.specs.List.{AllZip};
+ghost use Rattle.v_design.specs.Plain.{fault_of};
+ghost use Rattle.v_design.specs.Runs.{FirstSlot};
+ghost use Rattle.copy_laws.specs.Windows.{good_slots};
+ghost use Rattle.copy_lockstep.specs.Faults.{StandsAtSlot};
+ghost use Rattle.copy_lockstep.specs.Stops.{NoStopThrough};
 ghost use Rattle.copy_lockstep.specs.copy_room.Rooms.{IsRoom};
+ghost use Rattle.copy_lockstep.specs.copy_window.ShardFaults.{SameFault};
+ghost use Rattle.copy_lockstep.specs.lockstep_copies.Copies.{IsCopyInLockstep};
+ghost use Rattle.copy_lockstep.specs.slot_laws.Copies.{lockstep_differences};
 ghost use Rattle.own_gradings.specs.Numbers.{RisesOwn};
 ghost use Rattle.copy_lockstep.specs.window_strobes.Passed.{HasPassed};
 ghost use Rattle.copy_lockstep.specs.window_strobes.Strobes.{AreStrobesOf, passed_behind};
 ghost use Rattle.copy_lockstep.specs.phase_faults.Beside.{ticked_of};
 ghost use Rattle.window_faults.specs.Steps.{StaysFault, steps_of_fault, steps_of_faults};
 ghost use Rattle.window_faults.specs.Within.{AreWithin, IsWithin};
-ghost use Rattle.shard_slots.specs.Slots.{HaveGone, WentThrough};
+ghost use Rattle.shard_slots.specs.Slots.{EntersAt, HaveGone, WentThrough};
 
 use causal_monitor::SlotLog;
 use copy_lockstep::{
-    FaultBeside, FaultInSlot, Machine, ShardFault, WindowStrobes, leave_slot, slots_take_own,
+    FaultBeside, FaultInSlot, Machine, ShardFault, WindowStrobes, begin_fault, leave_first,
+    leave_slot, slots_take_own,
 };
 use good_trace::{Setup, TraceWindow};
 use std::alloc::Global;
 use std::sync::ledger::Ledger;
-use v_design::World;
+use v_design::{Fault, World};
 use vf_base::{NoMemory, Steps};
-use window_faults::{FaultAt, comes_to, run_whole};
+use window_faults::{FaultAt, comes_to, count_behind, run_whole};
 
 /// A fault that went through a slot in lockstep, behind it. The answer is how far it has come then.
 fn leave_going<N: World>(
@@ -81,6 +90,7 @@ fn leave_one<N: World, L: Ledger>(
     steps: &mut Steps<L>,
 ) -> Result<(), NoMemory>
     requires one { window.now.before ≡ 0 → window.now.through ≡ 1 }
+    requires more { window.now.before ≡ 0 → 1 < length (good_slots N.design N.plan) }
     requires slot { window.now.before + slot < window.now.through }
     requires room { IsRoom N.design machine.old }
     requires strobes { AreStrobesOf N.design N.plan window.now.before window.now.through strobes.now }
@@ -148,6 +158,7 @@ pub(crate) fn leave_each<N: World, L: Ledger>(
     steps: &mut Steps<L>,
 ) -> Result<(), NoMemory>
     requires one { window.now.before ≡ 0 → window.now.through ≡ 1 }
+    requires more { window.now.before ≡ 0 → 1 < length (good_slots N.design N.plan) }
     requires slot { window.now.before + slot < window.now.through }
     requires room { IsRoom N.design machine.old }
     requires strobes { AreStrobesOf N.design N.plan window.now.before window.now.through strobes.now }
