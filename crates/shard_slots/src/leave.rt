@@ -44,6 +44,7 @@ fn leave_going<N: World>(
 ) -> Result<FaultAt, NoMemory>
     requires slot { window.now.before + slot < window.now.through }
     requires fine { NoStopThrough N.design N.plan (window.now.before + slot + 1) }
+    requires one { window.now.before ≡ 0 → window.now.through ≡ 1 }
     requires more { window.now.before ≡ 0 → 1 < length (good_slots N.design N.plan) }
     requires none { own.old.end ≡ None }
     requires listed { slice_get N.plan.faults own.old.copy.fault ≡ Some (fault_of fault) }

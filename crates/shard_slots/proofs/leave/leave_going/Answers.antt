@@ -30,15 +30,22 @@ leave_first-requires-clause-more g c κs within = c.requires.more (sym c.begins.
 
 pub leave_first-requires-clause-through : goal.leave_first-requires-clause-through
 leave_first-requires-clause-through g c κs within = λ first here.
-    let gone : c.args.window.now.before + c.args.slot ≡ 0 = first-gone c in
+    let zero : c.args.window.now.before ≡ 0 = sym c.begins.ensures.number ∙ c.if-begins-eq0.true in
+    let gone : c.args.window.now.before + c.args.slot ≡ 0 = omega (arith, zero, c.requires.one zero, c.requires.slot) in
     subst (λ (n : ℕ). IsCopyInLockstep g.N.World.design g.N.World.plan (fault_of c.args.fault) n first.begins.time (lockstep_differences c.args.one.own.copy)) gone
     (c.requires.through first (ap (slice_get (good_slots g.N.World.design g.N.World.plan)) gone ∙ here))
 
 pub returns-then-begins-eq0-clause-slot : goal.returns-then-begins-eq0-clause-slot
-returns-then-begins-eq0-clause-slot g c = ?
+returns-then-begins-eq0-clause-slot g c =
+    let zero : c.args.window.now.before ≡ 0 = sym c.begins.ensures.number ∙ c.if-begins-eq0.true in
+    omega (arith, zero, c.requires.one zero, c.requires.slot, c.comes_to.ensures.slot)
 
 pub returns-then-begins-eq0-clause-fault : goal.returns-then-begins-eq0-clause-fault
-returns-then-begins-eq0-clause-fault g c = ?
+returns-then-begins-eq0-clause-fault g c =
+    let zero : c.args.window.now.before ≡ 0 = sym c.begins.ensures.number ∙ c.if-begins-eq0.true in
+    let at : 1 ≡ c.args.window.now.before + (c.args.slot + 1) = omega (arith, zero, c.requires.one zero, c.requires.slot) in
+    subst (λ (n : ℕ). StandsAtSlot g.N.World.design g.N.World.plan n c.comes_to.result.passed c.leave_first.new.own) at
+    (subst (λ (n : ℕ). StandsAtSlot g.N.World.design g.N.World.plan 1 n c.leave_first.new.own) (sym c.comes_to.ensures.passed) c.in_ok-passed.ensures.fault)
 
 pub leave_slot-requires-clause-entered : goal.leave_slot-requires-clause-entered
 leave_slot-requires-clause-entered g c κs within =
