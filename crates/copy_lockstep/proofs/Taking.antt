@@ -383,7 +383,7 @@ module _ (law : StepLaws) (design : FlatDesign) (plan : TestPlan) (fault : Stuck
   faulty = faulty_machine design fault
 
   at-start : may.slot.begins.time ≡ 0
-  at-start = law.good.first design plan may.slot from.rules may.stands
+  at-start = law.good.first design plan may.slot from.together.rules may.stands
 
   were-first : WereTried (good_machine design) faulty (phases (good_machine design) may.slot) (start faulty) tried
   were-first = record { to = own.to; comes = own.comes; begins_is = own.begins_is; own = own.own }
@@ -397,7 +397,7 @@ module _ (law : StepLaws) (design : FlatDesign) (plan : TestPlan) (fault : Stuck
     in_run = record {
       number = 0;
       stands = λ time low.
-          (let is = first-of faulty time (start faulty) (first_run faulty time) (law.first.follow faulty time from.rules) in ap (λ (l : List FirstSlot). slice_get l 0) is.1);
+          (let is = first-of faulty time (start faulty) (first_run faulty time) (law.first.follow faulty time from.together.rules) in ap (λ (l : List FirstSlot). slice_get l 0) is.1);
     };
     within = omega arith;
     were = were-first;
@@ -405,11 +405,11 @@ module _ (law : StepLaws) (design : FlatDesign) (plan : TestPlan) (fault : Stuck
 
   pub first-takes : (counter : ℕ) → RiseAtMostOwn design by 0 1 (fault ∷ []) counter (counter + length tried)
   first-takes counter counts each =
-      let is = first-of faulty plan.end (start faulty) (first_run faulty plan.end) (law.first.follow faulty plan.end from.rules) in
-      let leads-on = leads law design plan from.rules 0 may.slot may.stands may.fine in
+      let is = first-of faulty plan.end (start faulty) (first_run faulty plan.end) (law.first.follow faulty plan.end from.together.rules) in
+      let leads-on = leads law design plan from.together.rules 0 may.slot may.stands may.fine in
       let found : find (λ (other : FirstSlot). nat_eq other.begins.time 0) (first_run (good_machine design) plan.end) ≡ Some may.slot =
       subst (λ (time : ℕ). find (λ (other : FirstSlot). nat_eq other.begins.time time) (first_run (good_machine design) plan.end) ≡ Some may.slot) at-start
-      (find-at (first_run (good_machine design) plan.end) 0 may.slot (law.first.rise (good_machine design) plan.end from.rules)
+      (find-at (first_run (good_machine design) plan.end) 0 may.slot (law.first.rise (good_machine design) plan.end from.together.rules)
       (through-get (good_machine design) (first_run (good_machine design) plan.end) 0 may.slot may.stands)) in
       let one =
       law.rise.slot design by fault None (time_at design plan 1) [] is.0 (slot_from faulty (start faulty)) (length tried) is.1 refl

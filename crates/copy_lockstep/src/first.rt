@@ -44,10 +44,8 @@ pub fn leave_first<N: World>(
     ensures place { OnOk result (SameFault own.old own.new) }
 {
     beside_laws::good_run_goes_on();
-    beside_laws::runs_stand();
-    copy_laws::own_runs();
-    order_laws::first_run_goes_on();
     fault_strobes::strobed_gradings_go_on();
+    start_laws::first_slot_goes_on();
     shards_go_in_lockstep();
     let design = setup.design();
     own.strobed.forget();

@@ -59,7 +59,7 @@ fn enter_first<N: World>(
     let fault = listed_fault(setup, &own.copy);
     let number = own.copy.fault();
     let mut copy = FaultCopy::new(alloc, number);
-    start_copy(design, fault, good, start, &mut copy)?;
+    start_copy(fault, good, start, &mut copy)?;
     let found = enter_slot(alloc, view, fault, &copy, 0)?;
     match found {
         None => Ok(rests(alloc, fault, number)),

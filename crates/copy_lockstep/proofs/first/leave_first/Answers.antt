@@ -5,15 +5,14 @@ use Rattle.v_design.specs.Designs.{faulty_machine}
 use Rattle.v_design.specs.Plain.{fault_of}
 use Rattle.v_design.specs.Runs.{FirstSlot}
 use Rattle.copy_laws.specs.Windows.{good_slots, state_at, time_at}
-use Rattle.grade_laws.specs.Ahead.{StopsAfter}
-use Rattle.grade_laws.specs.Grading.{faulty_stop}
 use Rattle.lockstep_due.proofs.window_strobes.Knowing.{design-rules}
 use Rattle.lockstep_due.proofs.lockstep_shards.Laws.{last, last-there, time-there}
 use Rattle.lockstep_due.specs.lockstep_copies.Copies.{IsCopyInLockstep}
 use Rattle.lockstep_due.specs.copy_window.Copies.{differences_in}
+use Rattle.lockstep_slot.specs.slot_laws.Copies.{lockstep_differences}
 use Rattle.slot_strobes.specs.Strobes.{ComeBefore}
 use Rattle.copy_lockstep.specs.Faults.{StandsAtSlot}
-use Rattle.copy_lockstep.proofs.First.{grading-begins, none-before, on-time}
+use Rattle.copy_lockstep.proofs.First.{grading-begins, none-before}
 use Rattle.copy_lockstep.proofs.Within.{differences-are}
 use Rattle.copy_lockstep.proofs.first.leave_first.Goals as goal
 
@@ -65,10 +64,8 @@ see_behind-requires-clause-time g c κs within =
     let slot = last c.good_run_goes_on.ensures design plan rules 0 c.requires.more in
     let here = last-there c.good_run_goes_on.ensures design plan rules 0 c.requires.more in
     let is = begins-at c.args.window.now.before c.slot_time-begins.result (good_slots design plan) slot c.requires.first here c.slot_time-begins.ensures in
-    let zero : slot.begins.time ≡ 0 = c.good_run_goes_on.ensures.first design plan slot rules here in
-    let on = subst (λ (t : ℕ). StopsAfter t (faulty_stop design plan fault)) zero (c.requires.through slot here).own_on in
-    subst (λ (t : ℕ). (state_at (faulty_machine design fault) plan.end t).time ≡ t) (sym (is ∙ zero))
-    (on-time c.runs_stand.ensures c.first_run_goes_on.ensures c.own_runs.ensures.time design plan fault rules on)
+    subst (λ (t : ℕ). (state_at (faulty_machine design fault) plan.end t).time ≡ t) (sym is)
+    (c.first_slot_goes_on.ensures.on_time design plan fault slot (lockstep_differences c.args.one.own.copy) here (c.requires.through slot here))
 
 pub see_behind-requires-clause-listed : goal.see_behind-requires-clause-listed
 see_behind-requires-clause-listed g c κs within = ap (slice_get g.N.World.plan.faults) c.requires.place ∙ c.requires.listed
