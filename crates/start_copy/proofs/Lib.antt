@@ -1,0 +1,6 @@
+mod Front
+mod Words
+mod Contents
+mod Sites
+mod Holding
+mod Started
