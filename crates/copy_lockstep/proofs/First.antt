@@ -4,7 +4,7 @@ use Rattle.std.specs.Prelude.{None}
 use Rattle.v_design.specs.Designs.{FlatDesign, StuckAt, TestPlan}
 use Rattle.fault_strobes.specs.Said.{Said, SaysNothing}
 use Rattle.fault_strobes.specs.Strobes.{StrobedGradingsGoOn}
-use Rattle.slot_strobes.specs.Strobes.{ComeBefore, IsGradingBehind}
+use Rattle.lockstep_due.specs.slot_strobes.Strobes.{ComeBefore, IsGradingBehind}
 
 -- no strobe comes before time 0
 pub none-before : (strobes : List ℕ) → ComeBefore strobes 0 0

@@ -26,9 +26,9 @@ use Rattle.lockstep_due.proofs.lockstep_shards.Laws.{fine-there, last, last-ther
 use Rattle.lockstep_due.specs.copy_window.Copies.{differences_in}
 use Rattle.lockstep_due.specs.copy_window.ShardFaults.{IsShardFault, kept_by, said_by}
 use Rattle.lockstep_due.specs.copy_window.declared.fault.ShardFault.{ShardFault}
-use Rattle.slot_strobes.specs.Counts.{CountsBy}
-use Rattle.slot_strobes.specs.Strobes.{ComeBefore, IsGradingBehind, StandsBeforeSlot}
-use Rattle.slot_strobes.proofs.Lists.{at-read}
+use Rattle.lockstep_due.specs.slot_strobes.Counts.{CountsBy}
+use Rattle.lockstep_due.specs.slot_strobes.Strobes.{ComeBefore, IsGradingBehind, StandsBeforeSlot}
+use Rattle.lockstep_due.proofs.slot_strobes.Lists.{at-read}
 use Rattle.copy_lockstep.specs.Stops.{EndsWithoutStop, NoStopThrough}
 
 -- fewer slots have no stop either

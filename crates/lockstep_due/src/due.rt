@@ -6,7 +6,7 @@ ghost use Rattle.v_design.specs.Plain.{due_of};
 ghost use Rattle.lockstep_laws.specs.Lockstep.{due_times};
 ghost use Rattle.block_skip.specs.Blocks.{AreProcesses};
 ghost use Rattle.lockstep_due.specs.Due.{IsDueAlike};
-ghost use Rattle.lockstep_shards.specs.Shards.{AreDueAlike};
+ghost use Rattle.window_faults.specs.lockstep_shards.Shards.{AreDueAlike};
 
 use copy_state::FaultCopy;
 use good_trace::{Setup, TraceWindow};
@@ -84,7 +84,7 @@ fn is_far_apart(kept: usize, objects: usize) -> bool
     if kept < MANY_KEPT {
         return false;
     }
-    objects / kept < kept / 12
+    objects / kept < kept / 48
 }
 
 /// Whether a copy keeps no process's state, and updates that are due at the times of those that the good machine has pending before a slot of a window: so that the slot may

@@ -15,7 +15,7 @@ use Rattle.lockstep_phase.specs.lockstep_copy.Laws.{KeptEnds, LanesTellTurns}
 use Rattle.lockstep_phase.specs.phase_faults.Beside.{ComesThroughPhase, HasSite, MayGoOnIf, StaysBeside}
 use Rattle.lockstep_phase.specs.lockstep_block.Blocks.{TriedInSlot}
 use Rattle.lockstep_phase.specs.beside_phases.Laws.{OwnStepsGoOn}
-use Rattle.lockstep_phase.specs.good_runs.declared.tried.TriedStep.{TriedStep}
+use Rattle.good_runs.specs.declared.tried.TriedStep.{TriedStep}
 use Rattle.lockstep_phase.specs.phase_faults.declared.beside.FaultBeside.{FaultBeside}
 use Rattle.lockstep_phase.specs.lockstep_slots.Places.{Place, first_place, next_phase}
 use Rattle.lockstep_phase.specs.lockstep_steps.Laws.{StepsGoOn}

@@ -6,7 +6,7 @@ ghost use Rattle.vf_base.specs.Lists.{AllHold};
 ghost use Rattle.v_design.specs.Runs.{FirstSlot};
 ghost use Rattle.between_slots.specs.Between.{window_phases};
 ghost use Rattle.copy_laws.specs.Windows.{good_slots};
-ghost use Rattle.lockstep_phase.specs.slot_steps.Rises.{RisesWithin};
+ghost use Rattle.slot_steps.specs.Rises.{RisesWithin};
 ghost use Rattle.lockstep_phase.specs.lockstep_block.Rooms.{IsLockstepRoom};
 ghost use Rattle.lockstep_phase.specs.lockstep_room.Rooms.{AreCounts};
 ghost use Rattle.lockstep_phase.specs.phase_faults.Beside.{HasSite, ticked_of};

@@ -14,8 +14,8 @@ use Rattle.copy_lockstep.specs.phase_faults.declared.beside.FaultBeside.{FaultBe
 use Rattle.copy_lockstep.specs.lockstep_slot.Beside.{BeginsSlot}
 use Rattle.copy_lockstep.specs.Entered.{EntersSlot}
 use Rattle.copy_lockstep.specs.Stops.{NoStopThrough}
-use Rattle.window_faults.specs.Within.{IsWithin}
-use Rattle.window_faults.specs.declared.at.FaultAt.{FaultAt}
+use Rattle.copy_lockstep.specs.window_faults.Within.{IsWithin}
+use Rattle.copy_lockstep.specs.window_faults.declared.at.FaultAt.{FaultAt}
 
 -- whether a fault goes in a slot in lockstep
 abbrev pub goes_beside : FaultBeside → Bool

@@ -11,8 +11,8 @@ ghost use Rattle.start_copy.specs.Rooms.{IsRoomFor};
 ghost use Rattle.copy_lockstep.specs.window_strobes.Passed.{HasPassed};
 ghost use Rattle.copy_lockstep.specs.window_strobes.Strobes.{AreStrobesOf, passed_behind};
 ghost use Rattle.copy_lockstep.specs.copy_window.ShardFaults.{IsShardFault};
-ghost use Rattle.window_faults.specs.Steps.{steps_of_faults};
-ghost use Rattle.window_faults.specs.Within.{ComesThrough};
+ghost use Rattle.copy_lockstep.specs.window_faults.Steps.{steps_of_faults};
+ghost use Rattle.copy_lockstep.specs.window_faults.Within.{ComesThrough};
 ghost use Rattle.shard_slots.specs.Slots.{EntersFirst, HaveEnteredFirst};
 
 use crate::leave::leave_each;
@@ -20,7 +20,8 @@ use crate::room::SlotRoom;
 use crate::slots::{go_beside, view_of};
 use causal_monitor::SlotLog;
 use copy_lockstep::{
-    FaultBeside, LockstepWindow, ShardFault, WindowStrobes, enter_slot, rests, searches_begin,
+    FaultAt, FaultBeside, LockstepWindow, ShardFault, WindowStrobes, comes_to, enter_slot,
+    listed_fault, rests, searches_begin,
 };
 use copy_state::FaultCopy;
 use four_value::Vec4;
@@ -31,7 +32,6 @@ use std::alloc::Global;
 use std::sync::ledger::Ledger;
 use v_design::World;
 use vf_base::{NoMemory, Steps};
-use window_faults::{FaultAt, comes_to, listed_fault};
 
 /// A fault before the first slot enters it with what its faulty machine has otherwise than the good one at the start, whose values are given.
 fn enter_first<N: World>(

@@ -15,21 +15,20 @@ ghost use Rattle.own_gradings.specs.Numbers.{RisesOwn};
 ghost use Rattle.copy_lockstep.specs.window_strobes.Passed.{HasPassed};
 ghost use Rattle.copy_lockstep.specs.window_strobes.Strobes.{AreStrobesOf, passed_behind};
 ghost use Rattle.copy_lockstep.specs.phase_faults.Beside.{ticked_of};
-ghost use Rattle.window_faults.specs.Steps.{StaysFault, steps_of_fault, steps_of_faults};
-ghost use Rattle.window_faults.specs.Within.{AreWithin, IsWithin};
+ghost use Rattle.copy_lockstep.specs.window_faults.Steps.{StaysFault, steps_of_fault, steps_of_faults};
+ghost use Rattle.copy_lockstep.specs.window_faults.Within.{AreWithin, IsWithin};
 ghost use Rattle.shard_slots.specs.Slots.{EntersAt, HaveGone, WentThrough};
 
 use causal_monitor::SlotLog;
 use copy_lockstep::{
-    FaultBeside, FaultInSlot, Machine, ShardFault, WindowStrobes, begin_fault, leave_first,
-    leave_slot, slots_take_own,
+    FaultAt, FaultBeside, FaultInSlot, Machine, ShardFault, WindowStrobes, begin_fault, comes_to,
+    count_behind, leave_first, leave_slot, run_whole, slots_take_own,
 };
 use good_trace::{Setup, TraceWindow};
 use std::alloc::Global;
 use std::sync::ledger::Ledger;
 use v_design::{Fault, World};
 use vf_base::{NoMemory, Steps};
-use window_faults::{FaultAt, comes_to, count_behind, run_whole};
 
 /// A fault that went through a slot in lockstep, behind it. The answer is how far it has come then.
 fn leave_going<N: World>(

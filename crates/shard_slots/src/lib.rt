@@ -12,8 +12,9 @@ mod leave;
 mod room;
 mod slots;
 
-pub use copy_lockstep::{ShardFault, WindowStrobes, begin_fault, empty_log, new_fault, strobes_of};
+pub use copy_lockstep::{
+    ShardFault, WindowStrobes, begin_fault, empty_log, listed_fault, new_fault, strobes_of,
+};
 pub use first::go_through_first;
 pub use room::SlotRoom;
 pub use slots::go_through_window;
-pub use window_faults::listed_fault;

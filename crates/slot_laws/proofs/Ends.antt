@@ -14,20 +14,20 @@ use Rattle.between_slots.proofs.Leading.{through-get}
 use Rattle.between_slots.specs.Between.{slots_phases, window_phases}
 use Rattle.between_slots.specs.WindowLaws.{window_phases-more}
 use Rattle.machine_laws.specs.SlotLoop.{first_moment, steps_of}
-use Rattle.lockstep_block.specs.block_events.declared.runner.Runner.{Runner}
+use Rattle.beside_phases.specs.block_events.declared.runner.Runner.{Runner}
 use Rattle.copy_laws.specs.Differences.{Ascend}
 use Rattle.copy_laws.specs.Windows.{good_slots, window_slots}
 use Rattle.copy_state.specs.Kept.{CopyKept}
-use Rattle.lockstep_block.specs.moment_laws.Shown.{MomentKept}
-use Rattle.lockstep_block.specs.lockstep_copies.Copies.{IsCopyInLockstep, own_begins}
-use Rattle.lockstep_block.specs.lockstep_copy.Kept.{kept_by}
-use Rattle.lockstep_block.specs.lockstep_copy.Laws.{KeptEnds}
-use Rattle.lockstep_block.specs.lockstep_copy.declared.own.LockstepCopy.{LockstepCopy}
-use Rattle.lockstep_block.specs.lockstep_slots.Kept.{LockstepKept, kept_of}
-use Rattle.lockstep_block.specs.lockstep_slots.Places.{Place, first_place, steps_left}
-use Rattle.lockstep_block.specs.lockstep_steps.Going.{IsGoing}
-use Rattle.lockstep_block.specs.lockstep_steps.Laws.{StepsGoOn}
-use Rattle.lockstep_block.specs.Blocks.{IsPhaseBeside}
+use Rattle.beside_phases.specs.moment_laws.Shown.{MomentKept}
+use Rattle.beside_phases.specs.lockstep_copies.Copies.{IsCopyInLockstep, own_begins}
+use Rattle.beside_phases.specs.lockstep_copy.Kept.{kept_by}
+use Rattle.beside_phases.specs.lockstep_copy.Laws.{KeptEnds}
+use Rattle.beside_phases.specs.lockstep_copy.declared.own.LockstepCopy.{LockstepCopy}
+use Rattle.beside_phases.specs.lockstep_slots.Kept.{LockstepKept, kept_of}
+use Rattle.beside_phases.specs.lockstep_slots.Places.{Place, first_place, steps_left}
+use Rattle.beside_phases.specs.lockstep_steps.Going.{IsGoing}
+use Rattle.beside_phases.specs.lockstep_steps.Laws.{StepsGoOn}
+use Rattle.beside_phases.specs.lockstep_block.Blocks.{IsPhaseBeside}
 use Rattle.own_slots.specs.Slots.{OwnSoFar}
 use Rattle.beside_phases.specs.Laws.{OwnStepsGoOn}
 use Rattle.start_laws.specs.Starts.{FirstSlotGoesOn}

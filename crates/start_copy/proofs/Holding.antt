@@ -1,6 +1,6 @@
 -- Objects come to hold values of the faulty machine.
-use Rattle.std.proofs.Common.{◌≡◌, ◌≢◌, ℕ, ◌<◌, Bool, true, false, ◌||◌, List, [], length, get_or, set, refl, sym, ap, subst, ◌∙◌, arith, inl, inr}
-use Rattle.std.specs.Prelude.{Option, Some, None, nat_eq}
+use Rattle.std.proofs.Common.{◌≡◌, ◌≢◌, ℕ, ◌<◌, Bool, true, false, ◌||◌, List, [], length, set, refl, sym, ap, subst, ◌∙◌, arith, inl, inr}
+use Rattle.std.specs.Prelude.{Some}
 use Rattle.std.proofs.lemmas.Bool.{cases_eq, false≢true}
 use Rattle.std.proofs.lemmas.List.{get_or-set_same, get_or-set_other, length-set}
 use Rattle.vf_base.specs.Lists.{has}
@@ -18,7 +18,7 @@ use Rattle.net_graph.specs.Tables.{node_reads_at}
 use Rattle.net_settle.specs.Marked.{marked_at, MarksReaders}
 use Rattle.net_state.specs.HeldLaws.{values-set}
 use Rattle.node_eval.specs.ValuesOf.{AreValuesOf}
-use Rattle.start_copy.specs.Reached.{AreOwnValues, MarksReached, ComesToHold}
+use Rattle.start_copy.specs.Reached.{AreOwnValues, ComesToHold}
 use Rattle.start_copy.proofs.Words.{neither}
 
 -- what is shown once one object holds a value

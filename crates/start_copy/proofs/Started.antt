@@ -1,12 +1,12 @@
 -- The nodes that a fault reaches, from what it holds itself to the last one.
-use Rattle.std.proofs.Common.{◌≡◌, ◌≢◌, ℕ, zero, suc, ◌+◌, ◌<◌, ◌≤◌, Bool, true, false, not, ◌&&◌, ◌||◌, List, [], ◌∷◌, map, length, get_or, set, refl, sym, ap, subst, ◌∙◌, arith, inl, inr}
+use Rattle.std.proofs.Common.{◌≡◌, ◌≢◌, ℕ, zero, suc, ◌<◌, ◌≤◌, Bool, true, false, not, ◌&&◌, List, [], ◌∷◌, map, length, set, refl, sym, ap, subst, ◌∙◌, arith, inl, inr}
 use Rattle.std.specs.Prelude.{Option, Some, None, option_map, nat_eq, slice_get}
-use Rattle.std.proofs.lemmas.Bool.{cases_eq, cases_lt, ne_eqb, eqb-true, eq-eqb, false≢true}
-use Rattle.std.proofs.lemmas.List.{get_or-set_same, get_or-set_other, get_or_past, length-set}
+use Rattle.std.proofs.lemmas.Bool.{cases_eq, cases_lt, ne_eqb, eq-eqb, false≢true}
+use Rattle.std.proofs.lemmas.List.{get_or-set_same, get_or-set_other, get_or_past}
 use Rattle.vf_base.specs.Lists.{has}
 use Rattle.four_value.specs.Values.{LogicValue}
-use Rattle.v_design.specs.Designs.{FlatDesign, FlatNode, FaultSite, VariableBit, Machine, StuckAt, good_machine, faulty_machine, forced_variable}
-use Rattle.v_design.specs.Assignments.{value_at, node_outputs, first_values}
+use Rattle.v_design.specs.Designs.{FlatDesign, FlatNode, VariableBit, Machine, StuckAt, good_machine, faulty_machine, forced_variable}
+use Rattle.v_design.specs.Assignments.{value_at, node_outputs}
 use Rattle.v_design.specs.Laws.{AreSettledBut, input_differs, marks_after, worked_on, is_driven, BeginsPhase, NetsSettle, SettledValuesAreOne, PhasesBegin}
 use Rattle.v_design.specs.Plain.{fault_of}
 use Rattle.v_design.specs.States.{start, found_or}
@@ -26,7 +26,7 @@ use Rattle.node_eval.specs.ValuesOf.{AreValuesOf}
 use Rattle.order_laws.specs.NodesRest.{NodesRestOnInputs}
 use Rattle.start_copy.specs.Reached.{AreOwnValues, MarksReached, ComesToHold, StartsSo}
 use Rattle.start_copy.specs.Start.{KeepsStart}
-use Rattle.start_copy.proofs.Words.{neither, both-false, and-not_self, outputs-elsewhere, map-agree, none-differs, undriven-node, are-from, are-to, has-widths}
+use Rattle.start_copy.proofs.Words.{both-false, outputs-elsewhere, map-agree, none-differs, undriven-node, are-from, are-to, has-widths}
 use Rattle.start_copy.proofs.Contents.{undriven-start}
 
 -- where nothing is kept the good machine's values are shown

@@ -1,13 +1,13 @@
 -- Words on lists and tests that the proofs share.
-use Rattle.std.proofs.Common.{◌≡◌, ◌≢◌, ℕ, zero, suc, ◌<◌, Bool, true, false, not, ◌||◌, ◌&&◌, List, [], ◌∷◌, map, length, get_or, set, refl, sym, ap, subst, ◌∙◌, arith, inl, inr}
-use Rattle.std.specs.Prelude.{nat_eq, Some, None, slice_get}
+use Rattle.std.proofs.Common.{◌≡◌, ◌≢◌, ℕ, zero, suc, ◌<◌, Bool, true, false, not, ◌||◌, ◌&&◌, List, [], ◌∷◌, map, length, get_or, refl, sym, ap, subst, ◌∙◌, arith, inl, inr}
+use Rattle.std.specs.Prelude.{nat_eq, Some, slice_get}
 use Rattle.std.specs.List.{list_any}
 use Rattle.std.proofs.lemmas.Bool.{eq-eqb, eqb-false, cases_lt, or_left, or_right}
 use Rattle.std.proofs.lemmas.List.{get_or-set_other, get_or-map, get_or_past, length-map, ext_get_or}
-use Rattle.vf_base.specs.Lists.{has, change_at, map_numbered}
+use Rattle.vf_base.specs.Lists.{has, change_at}
 use Rattle.four_value.specs.Values.{LogicValue, same_value}
 use Rattle.four_value.specs.ValueLaws.{same_value-refl}
-use Rattle.v_design.specs.Designs.{FlatObject, FlatNode, FlatDesign, Machine}
+use Rattle.v_design.specs.Designs.{FlatObject, FlatNode, Machine}
 use Rattle.v_design.specs.Assignments.{value_at, with_outputs}
 use Rattle.v_design.specs.Laws.{HaveWidths}
 use Rattle.order_laws.specs.NodesRest.{HasWidths}

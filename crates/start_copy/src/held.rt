@@ -3,7 +3,7 @@
 ghost use Rattle.std.specs.Prelude.{◌≡◌, ℕ, ◌<◌, true, List, length, map, OnOk, slice_set};
 ghost use Rattle.vf_base.specs.Base.{object_number};
 ghost use Rattle.vf_base.specs.Lists.{has};
-ghost use Rattle.v_design.specs.Assignments.{value_at, with_outputs};
+ghost use Rattle.v_design.specs.Assignments.{with_outputs};
 ghost use Rattle.v_design.specs.Designs.{width_in};
 ghost use Rattle.v_design.specs.PlainDesigns.{design_of};
 ghost use Rattle.copy_overlay.specs.Faulty.{faulty_values};

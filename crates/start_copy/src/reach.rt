@@ -118,23 +118,9 @@ pub fn start_copy(
         design,
         fault: Some(fault),
     };
-    hold_site(
-        &view,
-        fault,
-        good,
-        &mut room.settle,
-        &mut room.work,
-        copy,
-    )?;
+    hold_site(&view, fault, good, &mut room.settle, &mut room.work, copy)?;
     'nodes: while let Some(node) = room.settle.work() {
-        work_on(
-            &view,
-            good,
-            &mut room.settle,
-            &mut room.work,
-            copy,
-            node,
-        )?;
+        work_on(&view, good, &mut room.settle, &mut room.work, copy, node)?;
     }
     copy.ascending();
     Ok(())

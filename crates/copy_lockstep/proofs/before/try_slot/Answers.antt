@@ -6,7 +6,7 @@ use Rattle.v_design.specs.Plain.{fault_of}
 use Rattle.fault_strobes.specs.Said.{Judging}
 use Rattle.lockstep_due.specs.copy_window.ShardFaults.{kept_by}
 use Rattle.lockstep_due.proofs.window_strobes.Knowing.{design-rules, plan-rules}
-use Rattle.slot_strobes.specs.Strobes.{IsSeenTo}
+use Rattle.lockstep_due.specs.slot_strobes.Strobes.{IsSeenTo}
 use Rattle.copy_lockstep.proofs.Slots.{enters-slot, found-before, has-ended, may-begin, may-try}
 use Rattle.copy_lockstep.proofs.Stops.{no-stop, none-next}
 use Rattle.copy_lockstep.proofs.Within.{processes-there}

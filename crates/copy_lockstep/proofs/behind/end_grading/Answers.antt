@@ -9,8 +9,8 @@ use Rattle.fault_strobes.specs.Shown.{said_of}
 use Rattle.fault_strobes.specs.Strobes.{EndsWith}
 use Rattle.lockstep_due.specs.copy_window.Copies.{differences_in}
 use Rattle.lockstep_due.proofs.window_strobes.Knowing.{design-rules, plan-rules}
-use Rattle.slot_strobes.specs.Counts.{CountsBy}
-use Rattle.slot_strobes.specs.Strobes.{IsSeenTo, StandsBeforeSlot}
+use Rattle.lockstep_due.specs.slot_strobes.Counts.{CountsBy}
+use Rattle.lockstep_due.specs.slot_strobes.Strobes.{IsSeenTo, StandsBeforeSlot}
 use Rattle.copy_lockstep.specs.Stops.{EndsWithoutStop}
 use Rattle.copy_lockstep.proofs.Stops.{ends-through, no-stop, stands-on, verdict-ends}
 use Rattle.copy_lockstep.proofs.behind.end_grading.Goals as goal

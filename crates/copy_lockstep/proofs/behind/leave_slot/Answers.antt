@@ -6,7 +6,7 @@ use Rattle.lockstep_due.specs.copy_window.ShardFaults.{IsShardFault}
 use Rattle.lockstep_due.specs.copy_window.declared.fault.ShardFault.{ShardFault}
 use Rattle.lockstep_due.proofs.window_strobes.Knowing.{design-rules}
 use Rattle.copy_lockstep.specs.Faults.{StandsAtSlot}
-use Rattle.slot_strobes.specs.Strobes.{ComeBefore}
+use Rattle.lockstep_due.specs.slot_strobes.Strobes.{ComeBefore}
 use Rattle.copy_lockstep.proofs.Slots.{begins-at, copy-behind, copy-there, time-behind}
 use Rattle.copy_lockstep.proofs.Stops.{last-ends, no-stop, none-next}
 use Rattle.copy_lockstep.proofs.behind.leave_slot.Goals as goal

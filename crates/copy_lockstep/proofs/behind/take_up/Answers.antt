@@ -2,7 +2,7 @@
 use Rattle.std.proofs.Common.{◌+◌, sym, subst, arith}
 use Rattle.v_design.specs.Plain.{fault_of}
 use Rattle.lockstep_due.proofs.window_strobes.Knowing.{design-rules}
-use Rattle.slot_strobes.specs.Strobes.{ComeBefore}
+use Rattle.lockstep_due.specs.slot_strobes.Strobes.{ComeBefore}
 use Rattle.copy_lockstep.proofs.Slots.{come-before, earlier, grades-from, stands-before, starts-later}
 use Rattle.copy_lockstep.proofs.Stops.{no-stop, none-next}
 use Rattle.copy_lockstep.proofs.behind.take_up.Goals as goal

@@ -10,7 +10,7 @@ use Rattle.lockstep_due.proofs.lockstep_shards.Laws.{last, last-there, time-ther
 use Rattle.lockstep_due.specs.lockstep_copies.Copies.{IsCopyInLockstep}
 use Rattle.lockstep_due.specs.copy_window.Copies.{differences_in}
 use Rattle.lockstep_slot.specs.slot_laws.Copies.{lockstep_differences}
-use Rattle.slot_strobes.specs.Strobes.{ComeBefore}
+use Rattle.lockstep_due.specs.slot_strobes.Strobes.{ComeBefore}
 use Rattle.copy_lockstep.specs.Faults.{StandsAtSlot}
 use Rattle.copy_lockstep.proofs.First.{grading-begins, none-before}
 use Rattle.copy_lockstep.proofs.Within.{differences-are}

@@ -10,7 +10,7 @@ use Rattle.copy_lockstep.specs.Faults.{StandsAtSlot}
 use Rattle.copy_lockstep.specs.copy_window.declared.fault.ShardFault.{ShardFault}
 use Rattle.copy_lockstep.specs.lockstep_copies.Copies.{IsCopyInLockstep}
 use Rattle.copy_lockstep.specs.slot_laws.Copies.{lockstep_differences}
-use Rattle.window_faults.specs.declared.at.FaultAt.{FaultAt}
+use Rattle.copy_lockstep.specs.window_faults.declared.at.FaultAt.{FaultAt}
 use Rattle.shard_slots.specs.Slots.{EntersAt}
 use Rattle.shard_slots.proofs.leave.leave_going.Goals as goal
 

@@ -1,5 +1,5 @@
 -- A copy that keeps what differs at the start stands for the faulty machine there.
-use Rattle.std.proofs.Common.{◌≡◌, ◌≢◌, ℕ, refl}
+use Rattle.std.proofs.Common.{◌≢◌, ℕ, refl}
 use Rattle.four_value.specs.Values.{LogicValue}
 use Rattle.v_design.specs.Assignments.{value_at}
 use Rattle.v_design.specs.Designs.{FlatDesign, StuckAt, good_machine}

@@ -1,14 +1,12 @@
-use Rattle.std.proofs.Common.{◌≡◌, ◌<◌, [], ◌∷◌, true, get_or, length, set, refl, sym, ap, subst, ◌∙◌, arith}
-use Rattle.std.specs.Prelude.{Some, slice_get, nat_eq}
-use Rattle.std.specs.Option.{option_map}
+use Rattle.std.proofs.Common.{◌≡◌, ◌<◌, [], ◌∷◌, get_or, length, set, refl, sym, ap, subst, ◌∙◌, arith}
+use Rattle.std.specs.Prelude.{nat_eq}
 use Rattle.std.proofs.lemmas.Bool.{eq-eqb, or_left}
 use Rattle.std.proofs.lemmas.List.{get_or_read, get_or_default}
 use Rattle.vf_base.specs.Base.{object_number, node_number}
 use Rattle.vf_base.specs.Lists.{has}
 use Rattle.v_design.specs.declared.plan.Design.{Design}
-use Rattle.v_design.specs.declared.plan.Fault.{Fault}
 use Rattle.v_design.specs.Assignments.{value_at}
-use Rattle.v_design.specs.Designs.{Machine, VariableBit, width_in}
+use Rattle.v_design.specs.Designs.{Machine, width_in}
 use Rattle.v_design.specs.Laws.{worked_on}
 use Rattle.v_design.specs.Plain.{fault_of, site_of}
 use Rattle.v_design.specs.PlainDesigns.{design_of}
@@ -110,7 +108,7 @@ returns-in_ok-hold-in-Var-clause-starts c =
     let found : get_or c.args.good.now (object_number c.in-Var.object) c.index-good-object.result ≡ value_at c.args.good.now (object_number c.in-Var.object) =
     get_or_default good object c.index-good-object.result [] low in
     let held = set (faulty_values good c.args.copy.now.values) object c.forced-own.result in
-    let comes = c.in_ok-hold.ensures.holds (object ∷ []) (or_left (nat_eq object object) (has [] object) (eq-eqb object object refl)) in
+    let comes = c.in_ok-hold-in-Var.ensures.holds (object ∷ []) (or_left (nat_eq object object) (has [] object) (eq-eqb object object refl)) in
     starts-variable (design_of d) (fault_of c.args.fault) good c.args.copy.now c.hold.new.copy c.args.settle.now.marks.items c.hold.new.settle.marks.items object c.in-Var.field-1 c.forced-own.result
     c.nodes_rest.ensures c.nets.ensures.begin c.free_events.ensures.sites rules (ap site_of c.in-Var.is) stands.0 stands.1 c.requires.good c.requires.empty c.requires.none
     (forced-shown c.args.view.now c.args.fault c.forced-own.result _ good object c.requires.fault c.forced-own.ensures (cc))
@@ -128,7 +126,7 @@ returns-in_ok-work_on-in-Out-clause-starts c =
     starts-node (design_of d) (fault_of c.args.fault) good c.args.copy.now c.work_on.new.copy c.args.settle.now.marks.items c.work_on.new.settle.marks.items number found.0 c.nets.ensures.settle
     c.nets.ensures.begin c.free_events.ensures.sites rules found.1 (λ k. ap (λ s. site_is_node s k) site) (λ x. ap (λ s. site_is_object s x) site) c.requires.good c.requires.empty c.requires.none
     (subst (λ (m : Machine). ComesToHold (design_of d) good found.0.outputs (worked_on m number found.0 (faulty_values good c.args.copy.now.values)) c.args.copy.now c.work_on.new.copy
-    c.args.settle.now.marks.items c.work_on.new.settle.marks.items) machine (c.in_ok-work_on.ensures.holds found.0 found.1))
+    c.args.settle.now.marks.items c.work_on.new.settle.marks.items) machine (c.in_ok-work_on-in-Out.ensures.holds found.0 found.1))
 
 pub returns-in_ok-work_on-in-Terminal-clause-starts : goal.returns-in_ok-work_on-in-Terminal-clause-starts
 returns-in_ok-work_on-in-Terminal-clause-starts c =

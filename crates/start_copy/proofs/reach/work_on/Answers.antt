@@ -1,8 +1,8 @@
-use Rattle.std.proofs.Common.{◌≡◌, length, map, sym, ap, subst, ◌∙◌}
-use Rattle.std.specs.Prelude.{Some, slice_get}
+use Rattle.std.proofs.Common.{map, sym, ap, subst, ◌∙◌}
+use Rattle.std.specs.Prelude.{slice_get}
 use Rattle.vf_base.specs.Base.{object_number, node_number}
 use Rattle.v_design.specs.declared.plan.Design.{Design}
-use Rattle.v_design.specs.Assignments.{node_outputs, with_outputs}
+use Rattle.v_design.specs.Assignments.{with_outputs}
 use Rattle.v_design.specs.Designs.{FlatNode}
 use Rattle.v_design.specs.Laws.{worked_on}
 use Rattle.v_design.specs.Plain.{node_of}
