@@ -1,5 +1,5 @@
 pub mod Stops
-mod First
+mod FirstSlot
 mod Passing
 mod Slots
 mod Taking

@@ -135,7 +135,9 @@ pub fn go_through_first<'d, N: World, L: Ledger>(
 {
     beside_laws::faults_go_on();
     beside_laws::good_run_goes_on();
+    order_laws::first_run_goes_on();
     own_gradings::own_steps_rise();
+    phase_order::phases_follow();
     searches_begin();
     let design = setup.design();
     let plan = setup.plan();

@@ -12,7 +12,7 @@ use Rattle.lockstep_due.specs.copy_window.Copies.{differences_in}
 use Rattle.lockstep_slot.specs.slot_laws.Copies.{lockstep_differences}
 use Rattle.lockstep_due.specs.slot_strobes.Strobes.{ComeBefore}
 use Rattle.copy_lockstep.specs.Faults.{StandsAtSlot}
-use Rattle.copy_lockstep.proofs.First.{grading-begins, none-before}
+use Rattle.copy_lockstep.proofs.FirstSlot.{grading-begins, none-before}
 use Rattle.copy_lockstep.proofs.Within.{differences-are}
 use Rattle.copy_lockstep.proofs.first.leave_first.Goals as goal
 

@@ -1,0 +1,183 @@
+-- Faults before the first slot (strobes by the plan; slots by IEEE 1364-2001, clause 5).
+use Rattle.std.proofs.Common.{◌≡◌, ℕ, zero, suc, ◌+◌, ◌<◌, List, [], ◌∷◌, length, true, refl, sym, ap, subst, ◌∙◌, inl, inr, arith}
+use Rattle.std.specs.Prelude.{Contains, Option, Some, None, option_map, replicate, slice_get}
+use Rattle.vf_base.specs.Lists.{AllHold}
+use Rattle.vf_base.specs.declared.finding.End.{End}
+use Rattle.v_design.specs.Designs.{FlatDesign, Machine, StuckAt, TestPlan, good_machine, faulty_machine}
+use Rattle.v_design.specs.Plain.{fault_of, grade_of}
+use Rattle.v_design.specs.Sites.{sites_of}
+use Rattle.v_design.specs.Runs.{FirstSlot, first_run}
+use Rattle.v_design.specs.States.{State, start}
+use Rattle.v_design.specs.WellFormed.{IsPlanOf, KeepsRules}
+use Rattle.copy_laws.specs.Differences.{Differences}
+use Rattle.copy_laws.specs.Windows.{good_slots}
+use Rattle.order_laws.specs.FirstRuns.{FirstRunsGoOn, Follow}
+use Rattle.phase_order.specs.Order.{PhasesFollow}
+use Rattle.between_slots.proofs.Leading.{through-get}
+use Rattle.beside_laws.specs.GoodRuns.{GoodRunGoesOn}
+use Rattle.copy_state.specs.Kept.{CopyKept, nothing_kept}
+use Rattle.lockstep_laws.specs.Lockstep.{AreInLockstep}
+use Rattle.lockstep_laws.specs.Slots.{KeepsNothingSame}
+use Rattle.start_copy.specs.Start.{KeepsStart, StartsInLockstep, value_differences}
+use Rattle.lockstep_slots.specs.Kept.{kept_of, kept_within}
+use Rattle.copy_lockstep.specs.slot_laws.Copies.{MayBeginSlot, lockstep_differences}
+use Rattle.copy_lockstep.specs.lockstep_block.declared.room.FaultInSlot.{FaultInSlot}
+use Rattle.block_events.specs.declared.runner.Runner.{Runner}
+use Rattle.lockstep_room.specs.declared.counts.Counts.{Counts}
+use Rattle.copy_lockstep.specs.lockstep_block.Rooms.{IsLockstepRoom}
+use Rattle.moment_laws.specs.Places.{IsAtSlot}
+use Rattle.moment_laws.specs.Shown.{MomentKept}
+use Rattle.lockstep_slots.specs.Places.{first_place, state_there}
+use Rattle.copy_lockstep.proofs.slot_laws.Begins.{first-begins, slot-shown}
+use Rattle.copy_lockstep.proofs.slot_laws.Rooms.{shows-whole}
+use Rattle.copy_lockstep.specs.lockstep_slot.Beside.{BeginsSlot}
+use Rattle.copy_lockstep.specs.copy_window.declared.fault.ShardFault.{ShardFault}
+use Rattle.copy_lockstep.specs.phase_faults.declared.beside.FaultBeside.{FaultBeside}
+use Rattle.copy_lockstep.specs.copy_window.ShardFaults.{IsShardFault}
+use Rattle.copy_lockstep.specs.window_strobes.Passed.{HasPassed}
+use Rattle.copy_lockstep.specs.window_faults.Within.{IsWithin}
+use Rattle.copy_lockstep.specs.window_faults.declared.at.FaultAt.{FaultAt}
+use Rattle.lockstep_shards.proofs.Laws.{fine-there, last, last-there}
+use Rattle.shard_slots.specs.Slots.{Enters, EntersFirst, HaveEntered, HaveEnteredFirst}
+
+-- Where a copy may begin the first slot
+
+-- it keeps what the faulty machine has otherwise than the good one at the start
+pub may-first : StartsInLockstep → GoodRunGoesOn → (design : FlatDesign) (plan : TestPlan) → KeepsRules design → 1 < length (good_slots design plan) → (fault : StuckAt) (number gone : ℕ)
+    (copy : CopyKept) → KeepsStart design fault (nothing_kept number) copy → gone ≡ 0 → MayBeginSlot design plan fault gone copy
+may-first law good design plan rules more fault number gone copy keeps zero =
+    let starts = law design fault number copy keeps in
+    let alike : value_differences copy.values ≡ lockstep_differences copy =
+    ap (λ (k : CopyKept). record { values = copy.values; activities = []; updates = k.updates }) (sym starts.0) in
+    record {
+      none = ap (λ (k : CopyKept). k.states) starts.0;
+      slot = last good design plan rules 0 more;
+      stands = subst (λ (n : ℕ). slice_get (good_slots design plan) n ≡ Some (last good design plan rules 0 more)) (sym zero) (last-there good design plan rules 0 more);
+      fine = fine-there good design plan rules 0 more;
+      begins = start (faulty_machine design fault);
+      given = inr (record {
+        number_is = zero;
+        begins_is = refl;
+        together = record {
+          rules = rules;
+          lockstep =
+              subst
+              (λ (d : Differences). AreInLockstep (kept_within (kept_of d) (start (good_machine design))) (start (good_machine design)) (start (faulty_machine design fault))) alike
+              starts.1.lockstep;
+          nothing_same =
+              subst (λ (d : Differences). KeepsNothingSame (kept_within (kept_of d) (start (good_machine design))) (start (good_machine design))) alike starts.1.nothing_same;
+        };
+      });
+    }
+
+-- Its fault
+
+some-fault : (one other : StuckAt) → Some one ≡ Some other → one ≡ other
+some-fault one other e = cc
+
+-- a listed fault is a site of the design
+pub listed-site : (design : FlatDesign) (faults : List StuckAt) (number : ℕ) (fault : StuckAt) → AllHold (λ (f : StuckAt). Contains (sites_of design) f.site) faults →
+    slice_get faults number ≡ Some fault → Contains (sites_of design) fault.site
+listed-site design [] number fault all here = cc
+listed-site design (first ∷ faults) zero fault all here = subst (λ (f : StuckAt). Contains (sites_of design) f.site) (some-fault first fault here) all.0
+listed-site design (first ∷ faults) (suc number) fault all here = listed-site design faults number fault all.1 here
+
+-- What is known of it then
+
+-- behind no slot nothing is found
+pub none-found : (design : FlatDesign) (plan : TestPlan) (passed : ℕ) (own : ShardFault) → IsShardFault design plan 0 passed own → own.end ≡ None
+none-found design plan passed own stands = go own.end (stands.beside.none_before refl)
+  where
+    go : (end : Option End) → option_map grade_of end ≡ None → end ≡ None
+    go None none = refl
+    go (Some found) none = cc
+
+-- it comes to the first slot, before which no strobe is
+module _ (design : FlatDesign) (plan : TestPlan) (through passed : ℕ) (has : HasPassed design plan 0 passed) (low : 0 < through) where
+  at-first : (own : ShardFault) (at : FaultAt) → at.slot ≡ 0 → at.passed ≡ 0 → IsShardFault design plan 0 passed own → IsWithin design plan 0 through own at
+  at-first own at slot_is passed_is stands =
+      let none : passed ≡ 0 = has.none refl in
+      record {
+        within = omega (arith, slot_is, low);
+        stands =
+            subst (λ (n : ℕ). IsShardFault design plan (0 + n) at.passed own) (sym slot_is)
+            (subst (λ (n : ℕ). IsShardFault design plan 0 n own) (none ∙ sym passed_is) stands);
+        has_passed = λ open.
+            subst (λ (n : ℕ). HasPassed design plan (0 + n) at.passed) (sym slot_is) (subst (HasPassed design plan 0) (none ∙ sym passed_is) has);
+      }
+
+  enters-at : 1 < length (good_slots design plan) → (own : ShardFault) (at : FaultAt) (beside : FaultBeside) → at.slot ≡ 0 → at.passed ≡ 0 → IsShardFault design plan 0 passed own →
+      EntersFirst design plan through own beside → Enters design plan 0 through 0 own at beside
+  enters-at more own at beside slot_is passed_is stands enters = record {
+    within = at-first own at slot_is passed_is stands;
+    come = λ none. omega (arith, slot_is);
+    listed = enters.listed;
+    tried = enters.tried;
+    goes = λ goes. record {
+      slot_is = slot_is;
+      fine = inl more;
+      none = none-found design plan passed own stands;
+      enters = inr refl;
+      place = enters.place goes;
+      states = enters.states goes;
+    };
+    begins = λ goes. enters.begins goes;
+  }
+
+  -- so do all
+  pub have-entered : 1 < length (good_slots design plan) → (faults : List ShardFault) (ats : List FaultAt) (besides : List FaultBeside) →
+      ((place : ℕ) (own : ShardFault) → slice_get faults place ≡ Some own → IsShardFault design plan 0 passed own) → length ats ≡ length faults →
+      ((place : ℕ) (at : FaultAt) → slice_get ats place ≡ Some at → (at.slot ≡ 0) × (at.passed ≡ 0)) → HaveEnteredFirst design plan through faults besides →
+      HaveEntered design plan 0 through 0 faults ats besides
+  have-entered more faults ats besides all count start entered = record {
+    count = count;
+    beside = entered.beside;
+    each = λ place own at beside here there one.
+        enters-at more own at beside (start place at there).0 (start place at there).1 (all place own here) (entered.each place own beside here one);
+  }
+
+-- The start
+
+some-at : (one other : FaultAt) → Some one ≡ Some other → one ≡ other
+some-at one other e = cc
+
+-- all stand alike
+pub all-alike : (count place : ℕ) (first at : FaultAt) → slice_get (replicate count first) place ≡ Some at → at ≡ first
+all-alike zero place first at here = cc
+all-alike (suc count) zero first at here = sym (some-at first at here)
+all-alike (suc count) (suc place) first at here = all-alike count place first at here
+
+some-slot : (one other : FirstSlot) → Some one ≡ Some other → one ≡ other
+some-slot one other e = cc
+
+-- a first run begins with a slot that begins in the start state
+begins-first : (machine : Machine) (end : ℕ) (slots : List FirstSlot) (slot : FirstSlot) → Follow machine end (Some (start machine)) slots → slice_get slots 0 ≡ Some slot →
+    slot.begins ≡ start machine
+begins-first machine end [] slot follow here = absurd follow
+begins-first machine end (first ∷ slots) slot follow here = ap (λ (s : FirstSlot). s.begins) (sym (some-slot first slot here) ∙ follow.0)
+
+-- a moment at the first slot's beginning shows what the good machine holds at the start
+pub start-values : FirstRunsGoOn → PhasesFollow → (design : FlatDesign) (plan : TestPlan) → KeepsRules design → (from until : ℕ) (good : MomentKept) → from ≡ 0 →
+    IsAtSlot design plan from until 0 good → good.values ≡ (start (good_machine design)).values
+start-values runs follow design plan rules from until good zero at =
+    let machine = good_machine design in
+    let there : from + 0 ≡ 0 = omega (arith, zero) in
+    let here : slice_get (first_run machine plan.end) 0 ≡ Some at.shown.slot =
+    through-get machine (first_run machine plan.end) 0 at.shown.slot (ap (slice_get (good_slots design plan)) (sym there) ∙ slot-shown follow design plan from until 0 good at) in
+    at.shown.shows.values
+    ∙ ap (λ (s : State). s.values) (first-begins follow design plan from until 0 good at ∙ begins-first machine plan.end (first_run machine plan.end) at.shown.slot (runs.follow machine plan.end rules) here)
+
+-- the room's moments are whole there
+pub room-there : (design : FlatDesign) (plan : TestPlan) (from until : ℕ) (runner : Runner) (before behind new : MomentKept) (counts : Counts) → IsLockstepRoom design runner before behind counts →
+    IsAtSlot design plan from until 0 new → IsLockstepRoom design runner new behind counts
+room-there design plan from until runner before behind new counts room at = record {
+  whole = room.whole;
+  design_is = room.design_is;
+  before_is = shows-whole design (state_there (good_machine design) (first_place at.first at.later)) new at.shown.shows;
+  behind_is = room.behind_is;
+  counts_are = room.counts_are;
+}
+
+pub all-held : {A : Type 0} (P Q : A → Type 0) → ((x : A) → P x → Q x) → (xs : List A) → AllHold P xs → AllHold Q xs
+all-held P Q law [] all = tt
+all-held P Q law (x ∷ xs) all = (law x all.0, all-held P Q law xs all.1)
