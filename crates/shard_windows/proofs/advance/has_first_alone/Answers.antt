@@ -1,5 +1,5 @@
 -- Its beginning, its slots and its end are asked, one after the other.
-use Rattle.std.proofs.Common.{◌≡◌, ℕ, ◌+◌, sym, ◌∙◌, arith}
+use Rattle.std.proofs.Common.{arith}
 use Rattle.shard_windows.proofs.advance.has_first_alone.Goals as goal
 
 pub returns-in-Open-clause-first : goal.returns-in-Open-clause-first
