@@ -20,8 +20,8 @@ use crate::room::SlotRoom;
 use crate::slots::{go_beside, view_of};
 use causal_monitor::SlotLog;
 use copy_lockstep::{
-    FaultAt, FaultBeside, LockstepWindow, ShardFault, WindowStrobes, comes_to, enter_slot,
-    listed_fault, rests, searches_begin,
+    FaultAt, FaultBeside, LockstepWindow, ShardFault, WindowStrobes, enter_slot, listed_fault,
+    rests, searches_begin,
 };
 use copy_state::FaultCopy;
 use four_value::Vec4;
@@ -102,7 +102,12 @@ fn enter_first_each<N: World>(
 fn at_start(alloc: Global, count: usize) -> Result<Vec<FaultAt>, NoMemory>
     ensures { IfOk result (λ ats. ats.items ≡ replicate count (record { slot = 0; passed = 0; seen = 0; possible = None })) }
 {
-    let first = comes_to(0, 0);
+    let first = FaultAt {
+        slot: 0,
+        passed: 0,
+        seen: 0,
+        possible: None,
+    };
     let ats = vec![in alloc; first; count]?;
     Ok(ats)
 }
