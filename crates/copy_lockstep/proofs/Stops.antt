@@ -54,7 +54,8 @@ last-ends design plan gone past none = elim none [ inl more ↦ absurd (past mor
 fine-through : (machine : Machine) (slots : List FirstSlot) (number : ℕ) (slot : FirstSlot) → first_stop machine slots ≡ None →
     slice_get (slots_through_stop machine slots) number ≡ Some slot → slot_outcome machine slot ≡ Fine
 fine-through machine [] number slot never here = cc
-fine-through machine (first ∷ slots) number slot never here = go (slot_outcome machine first) refl number never here
+fine-through machine (first ∷ slots) number slot never here =
+    go (slot_outcome machine first) refl number never here (λ place none there. fine-through machine slots place slot none there)
   where
     go : (outcome : SlotOutcome) → slot_outcome machine first ≡ outcome → (number : ℕ) →
         elim outcome as (λ _. Option Stop) [
@@ -62,11 +63,13 @@ fine-through machine (first ∷ slots) number slot never here = go (slot_outcome
           | Race pair ↦ Some (record { time = first.begins.time; outcome = Race pair })
           | Hyper ↦ Some (record { time = first.begins.time; outcome = Hyper })
         ] ≡ None →
-        slice_get (first ∷ elim outcome as (λ _. List FirstSlot) [ Fine ↦ slots_through_stop machine slots | Race pair ↦ [] | Hyper ↦ [] ]) number ≡ Some slot → slot_outcome machine slot ≡ Fine
-    go Fine is zero never here = subst (λ (s : FirstSlot). slot_outcome machine s ≡ Fine) (some-is first slot here) is
-    go Fine is (suc number) never here = fine-through machine slots number slot never here
-    go (Race pair) is number never here = cc
-    go Hyper is number never here = cc
+        slice_get (first ∷ elim outcome as (λ _. List FirstSlot) [ Fine ↦ slots_through_stop machine slots | Race pair ↦ [] | Hyper ↦ [] ]) number ≡ Some slot →
+        ((place : ℕ) → first_stop machine slots ≡ None → slice_get (slots_through_stop machine slots) place ≡ Some slot → slot_outcome machine slot ≡ Fine) →
+        slot_outcome machine slot ≡ Fine
+    go Fine is zero never here rest = subst (λ (s : FirstSlot). slot_outcome machine s ≡ Fine) (some-is first slot here) is
+    go Fine is (suc number) never here rest = rest number never here
+    go (Race pair) is number never here rest = cc
+    go Hyper is number never here rest = cc
 
 -- a slot of the good first run that isn't its stop
 pub record IsNoStop (design : FlatDesign) (plan : TestPlan) (gone : ℕ) : Type 0 where
@@ -107,7 +110,7 @@ none-behind good design plan rules before through window more = go through refl
         let next = slot-there (good_slots design plan) through more in
         let behind : slice_get (good_slots design plan) (suc number) ≡ Some next.0 = ap (slice_get (good_slots design plan)) (sym e) ∙ next.1 in
         let fine : slot_outcome (good_machine design) window.last ≡ Fine = (good.fine design plan number window.last next.0 rules (window.stands number e) behind).0 in
-        let open : IsThrough ≡ IsOpen = window.end_is ∙ (λ i. end-by (next.1 i) (fine i)) in
+        let both : IsThrough ≡ IsOpen = window.end_is ∙ (λ i. end-by (next.1 i) (fine i)) in
         cc
 
 -- Where the grading ended

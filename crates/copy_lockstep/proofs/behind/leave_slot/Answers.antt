@@ -1,5 +1,5 @@
 -- Behind the slot.
-use Rattle.std.proofs.Common.{◌≡◌, ℕ, ◌+◌, false, ap, subst, ◌∙◌, arith}
+use Rattle.std.proofs.Common.{◌≡◌, ℕ, ◌+◌, true, false, ap, subst, ◌∙◌, arith}
 use Rattle.std.specs.Prelude.{is_some, slice_get}
 use Rattle.v_design.specs.Plain.{fault_of}
 use Rattle.lockstep_due.specs.copy_window.ShardFaults.{IsShardFault}
@@ -46,7 +46,7 @@ returns-then-slot-last-clause-fault g c =
     let same : c.args.window.now.before + c.args.slot + 1 ≡ c.args.window.now.before + (c.args.slot + 1) = omega arith in
     record {
       stands = subst (λ (n : ℕ). IsShardFault g.N.World.design g.N.World.plan n c.in_ok-shown.shown c.end_grading.new.own) same c.in_ok-shown.ensures.fault;
-      has_passed = λ none. absurd (let some = c.in_ok-shown.ensures.ended in let no : is_some c.end_grading.new.own.end ≡ false = ap is_some none in cc);
+      has_passed = λ none. absurd (let some : is_some c.end_grading.new.own.end ≡ true = c.in_ok-shown.ensures.ended in let no : is_some c.end_grading.new.own.end ≡ false = ap is_some none in cc);
     }
 
 pub returns-then-slot-last-clause-place : goal.returns-then-slot-last-clause-place
