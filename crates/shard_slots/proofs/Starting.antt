@@ -1,6 +1,8 @@
 -- Faults before the first slot (strobes by the plan; slots by IEEE 1364-2001, clause 5).
 use Rattle.std.proofs.Common.{◌≡◌, ℕ, zero, suc, ◌+◌, ◌<◌, List, [], ◌∷◌, length, true, refl, sym, ap, subst, ◌∙◌, inl, inr, arith}
 use Rattle.std.specs.Prelude.{Contains, Option, Some, None, option_map, replicate, slice_get}
+use Rattle.std.proofs.lemmas.List.{length-replicate}
+use Rattle.std.proofs.lemmas.Option.{same_Some}
 use Rattle.vf_base.specs.Lists.{AllHold}
 use Rattle.vf_base.specs.declared.finding.End.{End}
 use Rattle.v_design.specs.Designs.{FlatDesign, Machine, StuckAt, TestPlan, good_machine, faulty_machine}
@@ -70,17 +72,16 @@ may-first law good design plan rules more fault number gone copy keeps zero =
       });
     }
 
--- Its fault
+-- Of each of some
 
-some-fault : (one other : StuckAt) → Some one ≡ Some other → one ≡ other
-some-fault one other e = cc
+pub all-get : {A : Type 0} (P : A → Type 0) (xs : List A) (place : ℕ) (x : A) → AllHold P xs → slice_get xs place ≡ Some x → P x
+all-get P [] place x all here = cc
+all-get P (first ∷ xs) zero x all here = subst P (same_Some first x here) all.0
+all-get P (first ∷ xs) (suc place) x all here = all-get P xs place x all.1 here
 
--- a listed fault is a site of the design
-pub listed-site : (design : FlatDesign) (faults : List StuckAt) (number : ℕ) (fault : StuckAt) → AllHold (λ (f : StuckAt). Contains (sites_of design) f.site) faults →
-    slice_get faults number ≡ Some fault → Contains (sites_of design) fault.site
-listed-site design [] number fault all here = cc
-listed-site design (first ∷ faults) zero fault all here = subst (λ (f : StuckAt). Contains (sites_of design) f.site) (some-fault first fault here) all.0
-listed-site design (first ∷ faults) (suc number) fault all here = listed-site design faults number fault all.1 here
+pub all-held : {A : Type 0} (P Q : A → Type 0) → ((x : A) → P x → Q x) → (xs : List A) → AllHold P xs → AllHold Q xs
+all-held P Q law [] all = tt
+all-held P Q law (x ∷ xs) all = (law x all.0, all-held P Q law xs all.1)
 
 -- What is known of it then
 
@@ -125,7 +126,7 @@ module _ (design : FlatDesign) (plan : TestPlan) (through passed : ℕ) (has : H
   }
 
   -- so do all
-  pub have-entered : 1 < length (good_slots design plan) → (faults : List ShardFault) (ats : List FaultAt) (besides : List FaultBeside) →
+  have-entered : 1 < length (good_slots design plan) → (faults : List ShardFault) (ats : List FaultAt) (besides : List FaultBeside) →
       ((place : ℕ) (own : ShardFault) → slice_get faults place ≡ Some own → IsShardFault design plan 0 passed own) → length ats ≡ length faults →
       ((place : ℕ) (at : FaultAt) → slice_get ats place ≡ Some at → (at.slot ≡ 0) × (at.passed ≡ 0)) → HaveEnteredFirst design plan through faults besides →
       HaveEntered design plan 0 through 0 faults ats besides
@@ -136,16 +137,32 @@ module _ (design : FlatDesign) (plan : TestPlan) (through passed : ℕ) (has : H
         enters-at more own at beside (start place at there).0 (start place at there).1 (all place own here) (entered.each place own beside here one);
   }
 
--- The start
-
+-- all of them stand alike
 some-at : (one other : FaultAt) → Some one ≡ Some other → one ≡ other
 some-at one other e = cc
 
--- all stand alike
 pub all-alike : (count place : ℕ) (first at : FaultAt) → slice_get (replicate count first) place ≡ Some at → at ≡ first
 all-alike zero place first at here = cc
 all-alike (suc count) zero first at here = sym (some-at first at here)
 all-alike (suc count) (suc place) first at here = all-alike count place first at here
+
+-- in a window that begins with the first slot
+pub all-entered : (design : FlatDesign) (plan : TestPlan) (before through from passed : ℕ) → before ≡ 0 → from ≡ 0 → 0 < through → 1 < length (good_slots design plan) →
+    HasPassed design plan from passed → (faults : List ShardFault) (ats : List FaultAt) (besides : List FaultBeside) → AllHold (IsShardFault design plan from passed) faults →
+    ats ≡ replicate (length faults) (record { slot = 0; passed = 0; seen = 0; possible = None }) → HaveEnteredFirst design plan through faults besides →
+    HaveEntered design plan before through 0 faults ats besides
+all-entered design plan before through from passed zero none low more has faults ats besides stands ats_are entered =
+    let first : FaultAt = record { slot = 0; passed = 0; seen = 0; possible = None } in
+    subst (λ (n : ℕ). HaveEntered design plan n through 0 faults ats besides) (sym zero)
+    (have-entered design plan through passed (subst (λ (n : ℕ). HasPassed design plan n passed) none has) low more faults ats besides
+    (λ place own here. subst (λ (n : ℕ). IsShardFault design plan n passed own) none (all-get (IsShardFault design plan from passed) faults place own stands here))
+    (ap length ats_are ∙ length-replicate (length faults) first)
+    (λ place at here.
+    let same : at ≡ first = all-alike (length faults) place first at (subst (λ (l : List FaultAt). slice_get l place ≡ Some at) ats_are here) in
+    (ap (λ (a : FaultAt). a.slot) same, ap (λ (a : FaultAt). a.passed) same))
+    entered)
+
+-- The start
 
 some-slot : (one other : FirstSlot) → Some one ≡ Some other → one ≡ other
 some-slot one other e = cc
@@ -177,7 +194,3 @@ room-there design plan from until runner before behind new counts room at = reco
   behind_is = room.behind_is;
   counts_are = room.counts_are;
 }
-
-pub all-held : {A : Type 0} (P Q : A → Type 0) → ((x : A) → P x → Q x) → (xs : List A) → AllHold P xs → AllHold Q xs
-all-held P Q law [] all = tt
-all-held P Q law (x ∷ xs) all = (law x all.0, all-held P Q law xs all.1)

@@ -1,7 +1,7 @@
 -- Draft: goals' names unchecked.
 use Rattle.std.proofs.Common.{◌≡◌, ◌+◌, ◌<◌, ℕ, [], length, refl, sym, ap, subst, ◌∙◌, arith}
 use Rattle.std.specs.Prelude.{Contains, Some, None, slice_get}
-use Rattle.v_design.specs.Designs.{FlatDesign, good_machine}
+use Rattle.v_design.specs.Designs.{FlatDesign, StuckAt, good_machine}
 use Rattle.v_design.specs.Plain.{fault_of}
 use Rattle.v_design.specs.Sites.{sites_of}
 use Rattle.v_design.specs.States.{State, start}
@@ -12,7 +12,7 @@ use Rattle.start_copy.specs.Rooms.{IsRoomFor, design_in}
 use Rattle.start_copy.specs.Start.{KeepsStart}
 use Rattle.copy_lockstep.specs.lockstep_slot.Beside.{BeginsSlot}
 use Rattle.copy_lockstep.proofs.window_strobes.Knowing.{design-rules}
-use Rattle.shard_slots.proofs.Starting.{listed-site, may-first}
+use Rattle.shard_slots.proofs.Starting.{all-get, may-first}
 use Rattle.shard_slots.proofs.first.enter_first.Goals as goal
 
 pub listed_fault-fault-requires-after_bounds : goal.listed_fault-fault-requires-after_bounds
@@ -21,7 +21,8 @@ listed_fault-fault-requires-after_bounds g c κs within = c.requires.fault
 pub start_copy-requires-clause-site : goal.start_copy-requires-clause-site
 start_copy-requires-clause-site g c =
     subst (λ (d : FlatDesign). Contains (sites_of d) (fault_of c.listed_fault-fault.result).site) (sym c.requires.start.belongs)
-    (listed-site g.N.World.design g.N.World.plan.faults c.args.own.now.copy.fault (fault_of c.listed_fault-fault.result) c.plan-plan.ensures.fits.faults c.listed_fault-fault.ensures)
+    (all-get (λ (f : StuckAt). Contains (sites_of g.N.World.design) f.site) g.N.World.plan.faults c.args.own.now.copy.fault (fault_of c.listed_fault-fault.result)
+    c.plan-plan.ensures.fits.faults c.listed_fault-fault.ensures)
 
 pub start_copy-requires-clause-good : goal.start_copy-requires-clause-good
 start_copy-requires-clause-good g c = c.requires.good ∙ ap (λ (d : FlatDesign). (start (good_machine d)).values) (sym c.requires.start.belongs)
