@@ -1,16 +1,15 @@
 -- Faults before the first slot (strobes by the plan; slots by IEEE 1364-2001, clause 5).
-use Rattle.std.proofs.Common.{◌≡◌, ℕ, zero, suc, ◌+◌, ◌<◌, List, [], ◌∷◌, length, true, refl, sym, ap, subst, ◌∙◌, inl, inr, arith}
-use Rattle.std.specs.Prelude.{Contains, Option, Some, None, option_map, replicate, slice_get}
+use Rattle.std.proofs.Common.{◌≡◌, ℕ, zero, suc, ◌+◌, ◌<◌, List, [], ◌∷◌, length, refl, sym, ap, subst, ◌∙◌, inl, inr, arith}
+use Rattle.std.specs.Prelude.{Option, Some, None, option_map, replicate, slice_get}
 use Rattle.std.proofs.lemmas.List.{length-replicate}
 use Rattle.std.proofs.lemmas.Option.{same_Some}
 use Rattle.vf_base.specs.Lists.{AllHold}
 use Rattle.vf_base.specs.declared.finding.End.{End}
 use Rattle.v_design.specs.Designs.{FlatDesign, Machine, StuckAt, TestPlan, good_machine, faulty_machine}
-use Rattle.v_design.specs.Plain.{fault_of, grade_of}
-use Rattle.v_design.specs.Sites.{sites_of}
+use Rattle.v_design.specs.Plain.{grade_of}
 use Rattle.v_design.specs.Runs.{FirstSlot, first_run}
 use Rattle.v_design.specs.States.{State, start}
-use Rattle.v_design.specs.WellFormed.{IsPlanOf, KeepsRules}
+use Rattle.v_design.specs.WellFormed.{KeepsRules}
 use Rattle.copy_laws.specs.Differences.{Differences}
 use Rattle.copy_laws.specs.Windows.{good_slots}
 use Rattle.order_laws.specs.FirstRuns.{FirstRunsGoOn, Follow}
@@ -23,7 +22,6 @@ use Rattle.lockstep_laws.specs.Slots.{KeepsNothingSame}
 use Rattle.start_copy.specs.Start.{KeepsStart, StartsInLockstep, value_differences}
 use Rattle.lockstep_slots.specs.Kept.{kept_of, kept_within}
 use Rattle.copy_lockstep.specs.slot_laws.Copies.{MayBeginSlot, lockstep_differences}
-use Rattle.copy_lockstep.specs.lockstep_block.declared.room.FaultInSlot.{FaultInSlot}
 use Rattle.block_events.specs.declared.runner.Runner.{Runner}
 use Rattle.lockstep_room.specs.declared.counts.Counts.{Counts}
 use Rattle.copy_lockstep.specs.lockstep_block.Rooms.{IsLockstepRoom}
@@ -32,7 +30,6 @@ use Rattle.moment_laws.specs.Shown.{MomentKept}
 use Rattle.lockstep_slots.specs.Places.{first_place, state_there}
 use Rattle.copy_lockstep.proofs.slot_laws.Begins.{first-begins, slot-shown}
 use Rattle.copy_lockstep.proofs.slot_laws.Rooms.{shows-whole}
-use Rattle.copy_lockstep.specs.lockstep_slot.Beside.{BeginsSlot}
 use Rattle.copy_lockstep.specs.copy_window.declared.fault.ShardFault.{ShardFault}
 use Rattle.copy_lockstep.specs.phase_faults.declared.beside.FaultBeside.{FaultBeside}
 use Rattle.copy_lockstep.specs.copy_window.ShardFaults.{IsShardFault}
@@ -103,7 +100,7 @@ module _ (design : FlatDesign) (plan : TestPlan) (through passed : ℕ) (has : H
         stands =
             subst (λ (n : ℕ). IsShardFault design plan (0 + n) at.passed own) (sym slot_is)
             (subst (λ (n : ℕ). IsShardFault design plan 0 n own) (none ∙ sym passed_is) stands);
-        has_passed = λ open.
+        has_passed = λ nothing.
             subst (λ (n : ℕ). HasPassed design plan (0 + n) at.passed) (sym slot_is) (subst (HasPassed design plan 0) (none ∙ sym passed_is) has);
       }
 

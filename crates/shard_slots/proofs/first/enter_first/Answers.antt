@@ -1,14 +1,13 @@
 -- Draft: goals' names unchecked.
-use Rattle.std.proofs.Common.{◌≡◌, ◌+◌, ◌<◌, ℕ, [], length, refl, sym, ap, subst, ◌∙◌, arith}
-use Rattle.std.specs.Prelude.{Contains, Some, None, slice_get}
+use Rattle.std.proofs.Common.{◌≡◌, ◌+◌, ℕ, sym, ap, subst, ◌∙◌, arith}
+use Rattle.std.specs.Prelude.{Contains, Some}
 use Rattle.v_design.specs.Designs.{FlatDesign, StuckAt, good_machine}
 use Rattle.v_design.specs.Plain.{fault_of}
 use Rattle.v_design.specs.Sites.{sites_of}
-use Rattle.v_design.specs.States.{State, start}
+use Rattle.v_design.specs.States.{start}
 use Rattle.v_design.specs.declared.plan.Fault.{Fault}
-use Rattle.copy_state.specs.Kept.{CopyKept, nothing_kept}
-use Rattle.four_value.specs.Values.{LogicValue}
-use Rattle.start_copy.specs.Rooms.{IsRoomFor, design_in}
+use Rattle.copy_state.specs.Kept.{CopyKept}
+use Rattle.start_copy.specs.Rooms.{IsRoomFor}
 use Rattle.start_copy.specs.Start.{KeepsStart}
 use Rattle.copy_lockstep.specs.lockstep_slot.Beside.{BeginsSlot}
 use Rattle.copy_lockstep.proofs.window_strobes.Knowing.{design-rules}
