@@ -1,4 +1,5 @@
 pub mod Stops
+mod FirstSlot
 mod Passing
 mod Slots
 mod Taking

@@ -75,7 +75,7 @@ fn take_up<N: World>(
 
 /// Shows a fault behind a slot of a window through which it went in lockstep the strobes at the slot's time, in steps. The answer is how many of the plan's strobes come up to
 /// then.
-fn see_behind<N: World>(
+pub(crate) fn see_behind<N: World>(
     alloc: Global,
     setup: &Setup<'_, N>,
     window: &TraceWindow<N>,

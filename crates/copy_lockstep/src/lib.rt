@@ -13,6 +13,7 @@
 mod before;
 mod behind;
 mod entered;
+mod first;
 mod last;
 mod pass;
 mod reached;
@@ -21,13 +22,15 @@ mod steps;
 pub use before::enter;
 pub use behind::leave_slot;
 pub use entered::{Entered, Entering};
+pub use first::leave_first;
 pub use last::end_of_lockstep;
 pub use lockstep_due::{
-    FaultAt, Machine, ShardFault, WindowStrobes, begin_each, begin_fault, comes_to, empty_log,
-    listed_fault, new_fault, new_room, run_whole, searches_begin, strobes_of,
+    FaultAt, Machine, ShardFault, WindowStrobes, begin_each, begin_fault, comes_to, count_behind,
+    empty_log, listed_fault, new_fault, new_room, run_whole, searches_begin, strobes_of,
 };
 pub use lockstep_slot::{
-    FaultBeside, FaultInSlot, LockstepRoom, LockstepWindow, NextTouches, all_through_slot, rests,
+    FaultBeside, FaultInSlot, LockstepRoom, LockstepWindow, NextTouches, all_through_slot,
+    enter_slot, rests,
 };
 pub use reached::Reached;
 pub use steps::slots_take_own;

@@ -3,6 +3,7 @@ use Rattle.std.proofs.Common.{◌≡◌, ℕ, ◌+◌, ◌<◌, ◌≤◌, Bool,
 use Rattle.std.specs.Prelude.{Option, Some, None, slice_get}
 use Rattle.v_design.specs.Designs.{FlatDesign, Machine, StuckAt, TestPlan, faulty_machine}
 use Rattle.v_design.specs.States.{State, start}
+use Rattle.v_design.specs.WellFormed.{KeepsRules}
 use Rattle.copy_laws.specs.Windows.{RiseAtMostOwn, good_slots, state_at, time_at, window_slots}
 use Rattle.causal_monitor.specs.declared.slot.Turn.TheVariants.{Start}
 use Rattle.copy_room.specs.machine.Standing.{IsStanding, machine_kept, begins_next, first_turn}
@@ -39,22 +40,33 @@ is-known law design plan fault kept beside first ends before through strobes are
     law.known design plan fault kept beside first ends before through until (end_of strobes.ending) rules.design_rules tells low high
     (subst (LeadsTo design plan before through (end_of strobes.ending)) e are.leads) taken
 
+-- all that was tried in the first of some slots was tried there
+tried-all : SlotsAreKnown → (design : FlatDesign) (plan : TestPlan) (fault : StuckAt) (kept : Bool) (beside : RunBeside) (before through : ℕ) → KeepsRules design →
+    MayTry design (plan_by kept plan) before fault beside.tried.now → IsTriedAt design plan before beside.time → before < through →
+    tried_in beside (time_at design plan before) (time_at design plan through) ≡ length beside.tried.now
+tried-all known design plan fault kept beside before through rules may at some =
+    (λ i. tried_in beside (sym (time-same design plan kept before) i) (sym (time-same design plan kept through) i)) ∙ known.all design (plan_by kept plan) fault beside before through rules may at some
+
 -- from the start of its faulty machine
 pub starts : MachinesStand → StrobedGradingsGoOn → SlotsAreKnown → (design : FlatDesign) (plan : TestPlan) (before through first ends : ℕ) (strobes : WindowStrobes) (beside : RunBeside) (fault : StuckAt)
-    (own : ShardFault) (m : Simulated) → TellsSlots design (window_slots design plan first ends) beside.slots → first ≤ before → through ≤ ends → beside.tried.now ≡ [] →
+    (own : ShardFault) (m : Simulated) → TellsSlots design (window_slots design plan first ends) beside.slots → first ≤ before → through ≤ ends → before < through →
+    MayTry design (plan_by (kept_by own) plan) before fault beside.tried.now → IsTriedAt design plan before beside.time →
     CanBegin design plan before through strobes fault own → HasRules design plan → machine_kept m ≡ faulty_machine design fault → IsStanding m →
     first_turn m.stage ≡ Start → begins_next m ≡ Some (start (faulty_machine design fault)) → SaysNothing (said_by own) → CanSettle design plan before through strobes beside m own
-starts stand law known design plan before through first ends strobes beside fault own m tells low high none of rules same standing turn next nothing = record {
-  fault = fault;
-  listed = of.listed;
-  none = of.none;
-  within = of.within;
-  are = of.are;
-  at = begins design plan fault before through strobes of.are law m (said_by own) rules of.at_start (stand.begins design plan fault m rules.design_rules same standing turn next) nothing;
-  known = is-known known design plan fault (kept_by own) beside first ends before through strobes of.are rules tells low high (known.none design (plan_by (kept_by own) plan) fault beside rules.design_rules none);
-  taken = known.none design (plan_by (kept_by own) plan) fault beside rules.design_rules none;
-  all = known.nothing beside (time_at design plan before) (time_at design plan through) none;
-}
+starts stand law known design plan before through first ends strobes beside fault own m tells low high some may at of rules same standing turn next nothing =
+    let P : TestPlan = plan_by (kept_by own) plan in
+    let taken : WereTaken design P fault beside = known.taken design P fault beside before rules.design_rules may at in
+    record {
+      fault = fault;
+      listed = of.listed;
+      none = of.none;
+      within = of.within;
+      are = of.are;
+      at = begins design plan fault before through strobes of.are law m (said_by own) rules of.at_start (stand.begins design plan fault m rules.design_rules same standing turn next) nothing;
+      known = is-known known design plan fault (kept_by own) beside first ends before through strobes of.are rules tells low high taken;
+      taken = taken;
+      all = tried-all known design plan fault (kept_by own) beside before through rules.design_rules may at some;
+    }
 
 -- what its strobes said may be forgotten
 pub begins-anew : (design : FlatDesign) (plan : TestPlan) (before through : ℕ) (strobes : WindowStrobes) (fault : StuckAt) (own : ShardFault) (strobed : Strobed) →
@@ -81,8 +93,7 @@ goes-again stand law faults known design plan before through first ends strobes 
       at = resumes design plan fault before through strobes own of more rules m entered stand law faults;
       known = is-known known design plan fault (kept_by own) beside first ends before through strobes of.are rules tells low high taken;
       taken = taken;
-      all = (λ i. tried_in beside (sym (time-same design plan (kept_by own) before) i) (sym (time-same design plan (kept_by own) through) i))
-          ∙ known.all design P fault beside before through rules.design_rules may at some;
+      all = tried-all known design plan fault (kept_by own) beside before through rules.design_rules may at some;
     }
 
 -- a room that was run on behind that is a room again

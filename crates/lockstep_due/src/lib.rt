@@ -10,7 +10,7 @@ mod due;
 pub use due::may_go;
 pub use window_faults::{
     FaultAt, Judged, Machine, ShardFault, WindowStrobes, begin_each, begin_fault, comes_to,
-    copies_go_in_lockstep, empty_log, is_unseen, judge_to, listed_fault, new_fault, new_room,
-    next_touched, run_whole, runs_take_steps, searches_begin, see_to, shards_go_in_lockstep,
-    strobes_by, strobes_of,
+    copies_go_in_lockstep, count_behind, empty_log, is_unseen, judge_to, listed_fault, new_fault,
+    new_room, next_touched, run_whole, runs_take_steps, searches_begin, see_to,
+    shards_go_in_lockstep, strobes_by, strobes_of,
 };

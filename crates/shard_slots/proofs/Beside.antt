@@ -16,10 +16,9 @@ use Rattle.copy_lockstep.specs.slot_laws.Copies.{lockstep_differences}
 use Rattle.copy_lockstep.specs.phase_faults.Beside.{HasSite, ticked_of}
 use Rattle.copy_lockstep.specs.phase_faults.declared.beside.FaultBeside.{FaultBeside}
 use Rattle.copy_lockstep.specs.lockstep_slot.Beside.{BeginsSlotIf, ComesThroughSlot}
-use Rattle.copy_lockstep.specs.Entered.{EntersSlot}
 use Rattle.copy_lockstep.specs.window_faults.declared.at.FaultAt.{FaultAt}
 use Rattle.copy_lockstep.proofs.window_faults.Lists.{all-at, sum-none, zip-back, zip-length}
-use Rattle.shard_slots.specs.Slots.{Enters, HaveEntered, HaveGone, TookOwn, WentThrough, goes_beside}
+use Rattle.shard_slots.specs.Slots.{Enters, EntersAt, HaveEntered, HaveGone, TookOwn, WentThrough, goes_beside}
 
 -- a place of a list has an element
 at-there : {A : Type 0} (xs : List A) (i : ℕ) → i < length xs → (x : A) × (slice_get xs i ≡ Some x)
@@ -80,7 +79,7 @@ module _ (design : FlatDesign) (plan : TestPlan) (before through slot : ℕ) whe
     tried true goes =
         let gone = enters.goes goes in
         let may = (enters.begins goes).may in
-        inr (gone.slot_is, record { copy = old.one.own.copy; enters = gone.enters; may = may; in_slot = comes.tried goes may })
+        inr (gone.slot_is, record { copy = old.one.own.copy; none = gone.none; enters = gone.enters; may = may; in_slot = comes.tried goes may })
 
     went : WentThrough design plan before through slot own at new
     went = record {
@@ -95,7 +94,8 @@ module _ (design : FlatDesign) (plan : TestPlan) (before through slot : ℕ) whe
           record {
             slot_is = gone.slot_is;
             fine = gone.fine;
-            enters = subst (λ (f : Fault). EntersSlot design plan (fault_of f) (before + slot) at.passed own at.seen at.possible) (sym comes.stays.fault) gone.enters;
+            none = gone.none;
+            enters = subst (λ (f : Fault). EntersAt design plan (fault_of f) (before + slot) own at) (sym comes.stays.fault) gone.enters;
             place = rest.fault ∙ gone.place;
             states = rest.states ∙ gone.states;
           };

@@ -1,5 +1,5 @@
 -- What becomes of a fault at a slot (strobes by the plan; slots by IEEE 1364-2001, clause 5).
-use Rattle.std.proofs.Common.{◌≡◌, ℕ, suc, ◌+◌, ◌<◌, ◌≤◌, true, false, [], refl, sym, ap, subst, ◌∙◌, arith}
+use Rattle.std.proofs.Common.{◌≡◌, ℕ, suc, ◌+◌, ◌<◌, ◌≤◌, true, false, [], refl, sym, ap, subst, ◌∙◌, arith, inl}
 use Rattle.std.specs.Prelude.{Option, Some, None, is_some, slice_get}
 use Rattle.v_design.specs.Designs.{FlatDesign, StuckAt, TestPlan}
 use Rattle.v_design.specs.Plain.{fault_of}
@@ -73,12 +73,13 @@ module _ (design : FlatDesign) (plan : TestPlan) (before through slot : ℕ) whe
     tried = ap (λ (one : FaultInSlot). one.tried.items) one_is ∙ enters.begins.untried;
     goes = λ goes. record {
       slot_is = slot_is;
+      none = ap (λ (o : ShardFault). o.end) enters.stays ∙ enters.enters.may.behind.none;
       fine = fewer design plan (before + slot + 1) (before + last) (let early = enters.early in omega (arith, early)) none;
       enters =
-          subst (λ (n : ℕ). EntersSlot design plan (fault_of beside.fault) (n + slot) at.passed own at.seen at.possible) before_is
+          inl (subst (λ (n : ℕ). EntersSlot design plan (fault_of beside.fault) (n + slot) at.passed own at.seen at.possible) before_is
           (subst (λ (p : Option ℕ). EntersSlot design plan (fault_of beside.fault) (window.before + slot) at.passed own at.seen p) (sym possible_is)
           (subst (λ (n : ℕ). EntersSlot design plan (fault_of beside.fault) (window.before + slot) at.passed own n entering.possible) (sym seen_is)
-          (subst (λ (o : ShardFault). EntersSlot design plan (fault_of beside.fault) (window.before + slot) at.passed o entering.passed entering.possible) (sym enters.stays) enters.enters)));
+          (subst (λ (o : ShardFault). EntersSlot design plan (fault_of beside.fault) (window.before + slot) at.passed o entering.passed entering.possible) (sym enters.stays) enters.enters))));
       place = ap (λ (one : FaultInSlot). one.own.copy.fault) one_is ∙ enters.place ∙ ap (λ (o : ShardFault). o.copy.fault) (sym enters.stays);
       states = ap (λ (one : FaultInSlot). one.own.copy.states) one_is ∙ enters.states;
     };

@@ -1,7 +1,7 @@
 -- A fault behind a slot, and the own steps that it takes there (steps by IEEE 1364-2001, clause 9; slots by clause 5).
-use Rattle.std.proofs.Common.{◌≡◌, ℕ, suc, ◌+◌, ◌≤◌, [], ◌∷◌, length, ap, subst, arith, inl, inr}
+use Rattle.std.proofs.Common.{◌≡◌, ℕ, suc, ◌+◌, ◌≤◌, List, [], ◌∷◌, length, sym, ap, subst, arith, inl, inr}
 use Rattle.std.specs.Prelude.{None}
-use Rattle.v_design.specs.Designs.{FlatDesign, TestPlan}
+use Rattle.v_design.specs.Designs.{FlatDesign, StuckAt, TestPlan}
 use Rattle.v_design.specs.Plain.{fault_of}
 use Rattle.v_design.specs.WellFormed.{KeepsRules}
 use Rattle.copy_laws.specs.Windows.{RiseAtMostOwn}
@@ -10,7 +10,11 @@ use Rattle.own_gradings.specs.Laws.{OwnStepsRise}
 use Rattle.own_gradings.specs.Numbers.{OwnStepsOf}
 use Rattle.copy_lockstep.specs.graded_steps.Behind.{RisesWithin}
 use Rattle.copy_lockstep.specs.copy_window.ShardFaults.{SameFault, kept_by}
-use Rattle.copy_lockstep.specs.window_beside.Tried.{MayTry}
+use Rattle.copy_lockstep.specs.window_beside.Tried.{MayTry, WasTried}
+use Rattle.copy_state.specs.Kept.{CopyKept}
+use Rattle.good_runs.specs.declared.tried.TriedStep.{TriedStep}
+use Rattle.copy_lockstep.specs.lockstep_block.Blocks.{TriedInSlot}
+use Rattle.copy_lockstep.specs.slot_laws.Copies.{MayBeginSlot}
 use Rattle.copy_lockstep.specs.copy_window.declared.fault.ShardFault.{ShardFault}
 use Rattle.copy_lockstep.specs.phase_faults.declared.beside.FaultBeside.{FaultBeside}
 use Rattle.copy_lockstep.specs.Steps.{SlotsTakeOwn}
@@ -19,11 +23,17 @@ use Rattle.copy_lockstep.specs.window_faults.declared.at.FaultAt.{FaultAt}
 use Rattle.shard_slots.specs.Slots.{TookOwn, WentThrough}
 use Rattle.shard_slots.proofs.Numbers.{counter-rises, steps-rise}
 
+-- the slot behind none is the first one
+begun-first : (design : FlatDesign) (plan : TestPlan) (fault : StuckAt) (gone : ℕ) (copy : CopyKept) (tried : List TriedStep) → gone ≡ 0 → (may : MayBeginSlot design plan fault gone copy) →
+    TriedInSlot design fault may.slot may.begins tried → (first : MayBeginSlot design plan fault 0 copy) × TriedInSlot design fault first.slot first.begins tried
+begun-first design plan fault gone copy tried zero may own =
+    subst (λ (n : ℕ). (first : MayBeginSlot design plan fault n copy) × TriedInSlot design fault first.slot first.begins tried) zero (may, own)
+
 module _ (law : OwnStepsRise) (design : FlatDesign) (plan : TestPlan) (rules : KeepsRules design) (before through slot : ℕ) (own : ShardFault) (at : FaultAt) (beside : FaultBeside)
     (went : WentThrough design plan before through slot own at beside) where
   -- one that had entered the slot had come to it, and nothing was found of it
   pub none-tried : ((at.slot ≡ slot) → own.end ≡ None → ⊥) → length beside.one.tried.items ≡ 0
-  none-tried other = elim went.tried [ inl none ↦ ap length none | inr some ↦ absurd (other some.0 some.1.enters.may.behind.none) ]
+  none-tried other = elim went.tried [ inl none ↦ ap length none | inr some ↦ absurd (other some.0 some.1.none) ]
 
   -- one that rests
   pub rests-within : (tally : OwnStepsOf design plan) (counter : ℕ) → length beside.one.tried.items ≡ 0 →
@@ -42,9 +52,24 @@ module _ (law : OwnStepsRise) (design : FlatDesign) (plan : TestPlan) (rules : K
       rises : TookOwn design plan (fault_of beside.fault) (before + slot) own at beside.one.tried.items →
           RiseAtMostOwn design (plan_by (kept_by own) plan) (before + slot) (before + (slot + 1)) (fault_of beside.fault ∷ []) counter (counter + length beside.one.tried.items)
       rises some =
-          let next : suc (before + slot) ≡ before + (slot + 1) = omega arith in
-          subst (λ (n : ℕ). RiseAtMostOwn design (plan_by (kept_by own) plan) (before + slot) n (fault_of beside.fault ∷ []) counter (counter + length beside.one.tried.items)) next
-          (took.entered design plan (fault_of beside.fault) (before + slot) at.passed at.seen at.possible some.copy own beside.one.tried.items counter some.enters some.may some.in_slot)
+          elim some.enters [
+            | inl enters ↦
+                let next : suc (before + slot) ≡ before + (slot + 1) = omega arith in
+                subst (λ (n : ℕ). RiseAtMostOwn design (plan_by (kept_by own) plan) (before + slot) n (fault_of beside.fault ∷ []) counter (counter + length beside.one.tried.items)) next
+                (took.entered design plan (fault_of beside.fault) (before + slot) at.passed at.seen at.possible some.copy own beside.one.tried.items counter enters some.may some.in_slot)
+            | inr first ↦
+                let one : 1 ≡ before + (slot + 1) = omega (arith, first) in
+                subst (λ (n : ℕ). RiseAtMostOwn design (plan_by (kept_by own) plan) n (before + (slot + 1)) (fault_of beside.fault ∷ []) counter (counter + length beside.one.tried.items)) (sym first)
+                (subst (λ (n : ℕ). RiseAtMostOwn design (plan_by (kept_by own) plan) 0 n (fault_of beside.fault ∷ []) counter (counter + length beside.one.tried.items)) one
+                (first-rises some first counter))
+          ]
+
+      -- of the first slot
+      first-rises : (some : TookOwn design plan (fault_of beside.fault) (before + slot) own at beside.one.tried.items) → before + slot ≡ 0 → (counter : ℕ) →
+          RiseAtMostOwn design (plan_by (kept_by own) plan) 0 1 (fault_of beside.fault ∷ []) counter (counter + length beside.one.tried.items)
+      first-rises some first counter =
+          let begun = begun-first design plan (fault_of beside.fault) (before + slot) some.copy beside.one.tried.items first some.may some.in_slot in
+          took.first design plan (fault_of beside.fault) (kept_by own) some.copy beside.one.tried.items counter begun.0 begun.1
 
   -- also where it was run whole through the slot
   pub whole-within : (tally : OwnStepsOf design plan) (new : ShardFault) (one other : ℕ) → SameFault own new →
@@ -58,7 +83,14 @@ pub may-try : SlotsTakeOwn → (design : FlatDesign) (plan : TestPlan) (before t
     WentThrough design plan before through slot own at beside → MayTry design (plan_by (kept_by own) plan) (before + slot) (fault_of beside.fault) beside.one.tried.items
 may-try took design plan before through slot own at beside went = elim went.tried [
   | inl none ↦ inl none
-  | inr some ↦ inr (took.again design plan (fault_of beside.fault) (before + slot) at.passed at.seen at.possible some.1.copy own beside.one.tried.items some.1.enters some.1.may some.1.in_slot)
+  | inr some ↦ elim some.1.enters [
+    | inl enters ↦
+        inr (took.again design plan (fault_of beside.fault) (before + slot) at.passed at.seen at.possible some.1.copy own beside.one.tried.items enters some.1.may some.1.in_slot)
+    | inr first ↦
+        let begun = begun-first design plan (fault_of beside.fault) (before + slot) some.1.copy beside.one.tried.items first some.1.may some.1.in_slot in
+        inr (subst (λ (n : ℕ). WasTried design (plan_by (kept_by own) plan) n (fault_of beside.fault) beside.one.tried.items) (sym first)
+        (took.first_again design plan (fault_of beside.fault) (kept_by own) some.1.copy beside.one.tried.items begun.0 begun.1))
+  ]
 ]
 
 -- All faults

@@ -1,5 +1,5 @@
 -- Faults entering a slot and leaving it, one after the other (strobes by the plan; slots by IEEE 1364-2001, clause 5).
-use Rattle.std.proofs.Common.{◌≡◌, ℕ, ◌+◌, ◌<◌, ◌≤◌, List, [], ◌∷◌, ◌++◌, length, set, sym, subst, ◌∙◌, arith, inl, inr}
+use Rattle.std.proofs.Common.{◌≡◌, ℕ, ◌+◌, ◌<◌, ◌≤◌, List, [], ◌∷◌, ◌++◌, length, set, sym, ap, subst, ◌∙◌, arith, inl, inr}
 use Rattle.std.specs.Prelude.{Some, slice_get}
 use Rattle.std.proofs.lemmas.Bool.{cases_lt}
 use Rattle.copy_lockstep.proofs.window_faults.Lists.{at-push, at-set}
@@ -73,3 +73,17 @@ module _ {A B C : Type 0} (P : A → B → Type 0) (R : A → B → C → Type 0
         | inl less ↦ omega (arith, less)
         | inr more ↦ absurd (apart (omega (arith, past, more)))
       ]
+
+-- two lists go together: of the first so many places it is said so
+module _ {A B : Type 0} (R : A → B → Type 0) where
+  -- one place more
+  pub more-pair : (xs : List A) (ys : List B) (i : ℕ) (x : A) (y : B) → slice_get xs i ≡ Some x → length ys ≡ i → R x y →
+      ((j : ℕ) (u : A) (v : B) → slice_get xs j ≡ Some u → slice_get ys j ≡ Some v → R u v) →
+      (j : ℕ) (u : A) (v : B) → slice_get xs j ≡ Some u → slice_get (ys ++ y ∷ []) j ≡ Some v → R u v
+  more-pair xs ys i x y here got r each j u v one two = elim (at-push ys y v j two) [
+    | inl front ↦ each j u v one front.1
+    | inr last ↦
+        (let this : slice_get xs i ≡ Some u = ap (slice_get xs) (sym (last.0 ∙ got)) ∙ one in
+        let same : x ≡ u = cc in
+        subst (R u) (sym last.1) (subst (λ (a : A). R a y) same r))
+  ]

@@ -21,11 +21,16 @@ use Rattle.copy_lockstep.specs.window_faults.declared.at.FaultAt.{FaultAt}
 abbrev pub goes_beside : FaultBeside → Bool
 goes_beside beside = beside.goes
 
+-- a fault enters a slot behind others, where it was in lockstep, or the first slot
+abbrev pub EntersAt : FlatDesign → TestPlan → StuckAt → ℕ → ShardFault → FaultAt → Type 0
+EntersAt design plan fault gone own at = EntersSlot design plan fault gone at.passed own at.seen at.possible ⊎ (gone ≡ 0)
+
 -- a fault goes in the slot of a number of a window beside others: it has come to it, it isn't the good machine's stop, and so many strobes were seen before it
 pub record GoesBeside (design : FlatDesign) (plan : TestPlan) (before slot : ℕ) (own : ShardFault) (at : FaultAt) (beside : FaultBeside) : Type 0 where
   pub slot_is : at.slot ≡ slot
   pub fine : NoStopThrough design plan (before + slot + 1)
-  pub enters : EntersSlot design plan (fault_of beside.fault) (before + slot) at.passed own at.seen at.possible
+  pub none : own.end ≡ None
+  pub enters : EntersAt design plan (fault_of beside.fault) (before + slot) own at
   pub place : beside.one.own.copy.fault ≡ own.copy.fault
   pub states : beside.one.own.copy.states ≡ []
 
@@ -41,7 +46,8 @@ pub record Enters (design : FlatDesign) (plan : TestPlan) (before through slot :
 -- a fault of which nothing was found entered a slot behind so many, and took these own steps there
 pub record TookOwn (design : FlatDesign) (plan : TestPlan) (fault : StuckAt) (gone : ℕ) (own : ShardFault) (at : FaultAt) (tried : List TriedStep) : Type 0 where
   pub copy : CopyKept
-  pub enters : EntersSlot design plan fault gone at.passed own at.seen at.possible
+  pub none : own.end ≡ None
+  pub enters : EntersAt design plan fault gone own at
   pub may : MayBeginSlot design plan fault gone copy
   pub in_slot : TriedInSlot design fault may.slot may.begins tried
 
@@ -68,3 +74,16 @@ HaveEntered design plan before through slot = AreBeside (Enters design plan befo
 
 abbrev pub HaveGone : FlatDesign → TestPlan → ℕ → ℕ → ℕ → List ShardFault → List FaultAt → List FaultBeside → Type 0
 HaveGone design plan before through slot = AreBeside (WentThrough design plan before through slot)
+
+-- a fault before the first slot enters it: what goes on of it there, if it goes, may go through the slot
+pub record EntersFirst (design : FlatDesign) (plan : TestPlan) (through : ℕ) (own : ShardFault) (beside : FaultBeside) : Type 0 where
+  pub listed : slice_get plan.faults own.copy.fault ≡ Some (fault_of beside.fault)
+  pub tried : beside.one.tried.items ≡ []
+  pub place : beside.goes ≡ true → beside.one.own.copy.fault ≡ own.copy.fault
+  pub states : beside.goes ≡ true → beside.one.own.copy.states ≡ []
+  pub begins : beside.goes ≡ true → BeginsSlot design plan (fault_of beside.fault) 0 through 0 beside.one
+
+-- so does each of some faults
+pub record HaveEnteredFirst (design : FlatDesign) (plan : TestPlan) (through : ℕ) (faults : List ShardFault) (besides : List FaultBeside) : Type 0 where
+  pub beside : length besides ≡ length faults
+  pub each : (place : ℕ) (own : ShardFault) (one : FaultBeside) → slice_get faults place ≡ Some own → slice_get besides place ≡ Some one → EntersFirst design plan through own one

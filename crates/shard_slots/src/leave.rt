@@ -1,26 +1,79 @@
 // The faults of a shard behind a slot.
 
-ghost use Rattle.std.specs.Prelude.{◌≡◌, ◌+◌, ◌<◌, ◌≤◌, None, OnOk, length, sum_by};
+ghost use Rattle.std.specs.Prelude.{◌≡◌, ◌+◌, ◌<◌, ◌≤◌, [], None, IfOk, OnOk, Some, length, slice_get, sum_by};
 ghost use Rattle.std.specs.List.{AllZip};
+ghost use Rattle.v_design.specs.Plain.{fault_of};
+ghost use Rattle.v_design.specs.Runs.{FirstSlot};
+ghost use Rattle.copy_laws.specs.Windows.{good_slots};
+ghost use Rattle.copy_lockstep.specs.Faults.{StandsAtSlot};
+ghost use Rattle.copy_lockstep.specs.Stops.{NoStopThrough};
 ghost use Rattle.copy_lockstep.specs.copy_room.Rooms.{IsRoom};
+ghost use Rattle.copy_lockstep.specs.copy_window.ShardFaults.{SameFault};
+ghost use Rattle.copy_lockstep.specs.lockstep_copies.Copies.{IsCopyInLockstep};
+ghost use Rattle.copy_lockstep.specs.slot_laws.Copies.{lockstep_differences};
 ghost use Rattle.own_gradings.specs.Numbers.{RisesOwn};
 ghost use Rattle.copy_lockstep.specs.window_strobes.Passed.{HasPassed};
 ghost use Rattle.copy_lockstep.specs.window_strobes.Strobes.{AreStrobesOf, passed_behind};
 ghost use Rattle.copy_lockstep.specs.phase_faults.Beside.{ticked_of};
 ghost use Rattle.copy_lockstep.specs.window_faults.Steps.{StaysFault, steps_of_fault, steps_of_faults};
 ghost use Rattle.copy_lockstep.specs.window_faults.Within.{AreWithin, IsWithin};
-ghost use Rattle.shard_slots.specs.Slots.{HaveGone, WentThrough};
+ghost use Rattle.shard_slots.specs.Slots.{EntersAt, HaveGone, WentThrough};
 
 use causal_monitor::SlotLog;
 use copy_lockstep::{
-    FaultAt, FaultBeside, FaultInSlot, Machine, ShardFault, WindowStrobes, comes_to, leave_slot,
-    run_whole, slots_take_own,
+    FaultAt, FaultBeside, FaultInSlot, Machine, ShardFault, WindowStrobes, begin_fault, comes_to,
+    count_behind, leave_first, leave_slot, run_whole, slots_take_own,
 };
 use good_trace::{Setup, TraceWindow};
 use std::alloc::Global;
 use std::sync::ledger::Ledger;
-use v_design::World;
+use v_design::{Fault, World};
 use vf_base::{NoMemory, Steps};
+
+/// A fault that went through a slot in lockstep, behind it. The answer is how far it has come then.
+fn leave_going<N: World>(
+    alloc: Global,
+    setup: &Setup<'_, N>,
+    window: &TraceWindow<N>,
+    fault: Fault,
+    one: FaultInSlot,
+    own: &mut ShardFault,
+    at: FaultAt,
+    slot: u32,
+) -> Result<FaultAt, NoMemory>
+    requires slot { window.now.before + slot < window.now.through }
+    requires fine { NoStopThrough N.design N.plan (window.now.before + slot + 1) }
+    requires one { window.now.before ≡ 0 → window.now.through ≡ 1 }
+    requires more { window.now.before ≡ 0 → 1 < length (good_slots N.design N.plan) }
+    requires none { own.old.end ≡ None }
+    requires listed { slice_get N.plan.faults own.old.copy.fault ≡ Some (fault_of fault) }
+    requires entered { EntersAt N.design N.plan (fault_of fault) (window.now.before + slot) own.old at }
+    requires through { (first : FirstSlot) → slice_get (good_slots N.design N.plan) (window.now.before + slot) ≡ Some first →
+        IsCopyInLockstep N.design N.plan (fault_of fault) (window.now.before + slot) first.begins.time (lockstep_differences one.own.copy) }
+    requires states { one.own.copy.states ≡ [] }
+    requires place { one.own.copy.fault ≡ own.old.copy.fault }
+    ensures slot { IfOk result (λ came. came.slot ≡ slot + 1) }
+    ensures fault { IfOk result (λ came. StandsAtSlot N.design N.plan (window.now.before + (slot + 1)) came.passed own.new) }
+    ensures place { OnOk result (SameFault own.old own.new) }
+{
+    if window.begins() == 0 {
+        let passed = leave_first(alloc, setup, window, fault, one, own)?;
+        return Ok(comes_to(1, passed));
+    }
+    let reached = leave_slot(
+        alloc,
+        setup,
+        window,
+        fault,
+        one,
+        at.passed,
+        at.seen,
+        at.possible,
+        own,
+        slot,
+    )?;
+    Ok(comes_to(reached.slot, reached.passed))
+}
 
 /// A fault behind a slot: it went through it in lockstep, or it is run whole through it, if it hasn't passed it.
 fn leave_one<N: World, L: Ledger>(
@@ -36,7 +89,8 @@ fn leave_one<N: World, L: Ledger>(
     slot: u32,
     steps: &mut Steps<L>,
 ) -> Result<(), NoMemory>
-    requires some { 0 < window.now.before }
+    requires one { window.now.before ≡ 0 → window.now.through ≡ 1 }
+    requires more { window.now.before ≡ 0 → 1 < length (good_slots N.design N.plan) }
     requires slot { window.now.before + slot < window.now.through }
     requires room { IsRoom N.design machine.old }
     requires strobes { AreStrobesOf N.design N.plan window.now.before window.now.through strobes.now }
@@ -65,23 +119,19 @@ fn leave_one<N: World, L: Ledger>(
         ..
     } = beside;
     if goes {
-        let reached = leave_slot(
-            alloc,
-            setup,
-            window,
-            fault,
-            one,
-            at.passed,
-            at.seen,
-            at.possible,
-            own,
-            slot,
-        )?;
-        *at = comes_to(reached.slot, reached.passed);
+        let came = leave_going(alloc, setup, window, fault, one, own, *at, slot)?;
+        *at = came;
         return Ok(());
     }
     // What it took itself in the slot isn't taken again.
     let FaultInSlot { tried, .. } = one;
+    if window.begins() == 0 {
+        begin_fault(
+            alloc, setup, window, 1, strobes, fault, &tried, log, own, steps,
+        )?;
+        *at = comes_to(1, count_behind(setup, strobes));
+        return Ok(());
+    }
     let came = run_whole(
         alloc, setup, window, strobes, fault, &tried, machine, log, own, *at, steps,
     )?;
@@ -107,7 +157,8 @@ pub(crate) fn leave_each<N: World, L: Ledger>(
     slot: u32,
     steps: &mut Steps<L>,
 ) -> Result<(), NoMemory>
-    requires some { 0 < window.now.before }
+    requires one { window.now.before ≡ 0 → window.now.through ≡ 1 }
+    requires more { window.now.before ≡ 0 → 1 < length (good_slots N.design N.plan) }
     requires slot { window.now.before + slot < window.now.through }
     requires room { IsRoom N.design machine.old }
     requires strobes { AreStrobesOf N.design N.plan window.now.before window.now.through strobes.now }

@@ -7,6 +7,7 @@
 #![tactic(auto)]
 
 mod enter;
+mod first;
 mod leave;
 mod room;
 mod slots;
@@ -14,5 +15,6 @@ mod slots;
 pub use copy_lockstep::{
     ShardFault, WindowStrobes, begin_fault, empty_log, listed_fault, new_fault, strobes_of,
 };
+pub use first::go_through_first;
 pub use room::SlotRoom;
 pub use slots::go_through_window;

@@ -42,7 +42,7 @@ fn some_goes(besides: &[FaultBeside]) -> bool
 }
 
 /// Takes the faults that entered a slot in lockstep through it, side by side.
-fn go_beside<N: World, L: Ledger>(
+pub(crate) fn go_beside<N: World, L: Ledger>(
     alloc: Global,
     setup: &Setup<'_, N>,
     view: &LockstepWindow<'_, N>,
@@ -174,7 +174,7 @@ fn go_through<N: World, L: Ledger>(
 }
 
 /// A window of the good first run as faults in lockstep look at it.
-fn view_of<'w, N: World>(run: &'w RunWindow<N>) -> LockstepWindow<'w, N>
+pub(crate) fn view_of<'w, N: World>(run: &'w RunWindow<N>) -> LockstepWindow<'w, N>
     ensures window { result.window.now ≡ run.now }
     ensures one { AreOfOneWindow result.window.now result.blocks.now result.wakes.now }
 {
@@ -214,6 +214,7 @@ pub fn go_through_window<'d, N: World, L: Ledger>(
     let mut machine = room.machine;
     let mut lockstep = room.lockstep;
     let mut touches = room.touches;
+    let start = room.start;
     let view = view_of(run);
     go_through(
         alloc,
@@ -232,5 +233,6 @@ pub fn go_through_window<'d, N: World, L: Ledger>(
         machine,
         lockstep,
         touches,
+        start,
     })
 }

@@ -1,5 +1,5 @@
 -- Faults through a window (slots by IEEE 1364-2001, clause 5).
-use Rattle.std.proofs.Common.{◌≡◌, ℕ, ◌≤◌, Bool, true, false, List, [], ◌∷◌, length, refl, sym, ap, subst, ◌∙◌, arith}
+use Rattle.std.proofs.Common.{◌≡◌, ℕ, ◌<◌, ◌≤◌, Bool, true, false, List, [], ◌∷◌, length, refl, sym, ap, subst, ◌∙◌, arith}
 use Rattle.std.specs.Prelude.{Option, Some, None, is_some, not, ◌||◌, slice_get}
 use Rattle.std.specs.List.{AllZip, list_any}
 use Rattle.vf_base.specs.Lists.{AllHold}
@@ -61,3 +61,8 @@ pub time-behind : (design : FlatDesign) (plan : TestPlan) (through : ℕ) (endin
 time-behind design plan through IsOpen until time so is some more = so.2.time_is ∙ ap (λ t. Some t) (sym (is so.0 so.1))
 time-behind design plan through IsThrough until time so is some more = (let all : length (good_slots design plan) ≡ through = so.0.all in absurd (omega (arith, all, more)))
 time-behind design plan through (IsRaced pair) until time so is some more = (let all : length (good_slots design plan) ≡ through = so.0.all in absurd (omega (arith, all, more)))
+
+-- where slots come behind a window the good first run has more
+pub more-behind : (design : FlatDesign) (plan : TestPlan) (through : ℕ) (ending : WindowEnd) (until : Option ℕ) → EndsSo design plan through ending until → ending ≡ IsOpen →
+    through < length (good_slots design plan)
+more-behind design plan through ending until so is = (subst (λ (e : WindowEnd). EndsSo design plan through e until) is so).2.more

@@ -1,8 +1,10 @@
 // Faults through a window.
 
-ghost use Rattle.std.specs.Prelude.{◌≡◌, IfOk, OnOk};
+ghost use Rattle.std.specs.Prelude.{◌≡◌, ◌<◌, true, length, IfOk, OnOk};
 ghost use Rattle.std.specs.List.{AllZip, list_any};
 ghost use Rattle.vf_base.specs.Lists.{AllHold};
+ghost use Rattle.copy_laws.specs.Windows.{IsOpen, good_slots};
+ghost use Rattle.good_trace.specs.Slots.{end_of};
 ghost use Rattle.own_gradings.specs.Numbers.{RisesOwn};
 ghost use Rattle.shard_slots.specs.window_strobes.Passed.{HasPassed};
 ghost use Rattle.shard_slots.specs.window_strobes.Strobes.{AreStrobesOf, passed_behind};
@@ -14,10 +16,11 @@ ghost use Rattle.shard_windows.specs.Reached.{HasReachedIfOpen, IsTimeOf, is_ope
 use crate::reached::{Reached, reached_behind};
 use crate::room::ShardRoom;
 use causal_monitor::SlotLog;
-use good_trace::{Setup, TraceWindow};
+use good_trace::{GoodEnd, Setup, TraceWindow};
 use run_trace::RunWindow;
 use shard_slots::{
-    ShardFault, WindowStrobes, begin_fault, go_through_window, listed_fault, strobes_of,
+    ShardFault, WindowStrobes, begin_fault, go_through_first, go_through_window, listed_fault,
+    strobes_of,
 };
 use std::alloc::Global;
 use std::sync::ledger::Ledger;
@@ -49,7 +52,18 @@ fn begin_one<N: World, L: Ledger>(
     }
     let fault = listed_fault(setup, &own.copy);
     let end = window.slots();
-    begin_fault(alloc, setup, window, end, strobes, fault, log, own, steps)?;
+    begin_fault(
+        alloc,
+        setup,
+        window,
+        end,
+        strobes,
+        fault,
+        &[],
+        log,
+        own,
+        steps,
+    )?;
     Ok(())
 }
 
@@ -77,6 +91,52 @@ fn begin_each<N: World, L: Ledger>(
     Ok(())
 }
 
+/// Whether a window, which ends so, has the first slot alone, and slots come after it.
+fn has_first_alone<N: World>(window: &TraceWindow<N>, ending: GoodEnd) -> bool
+    ensures first { result ≡ true → window.now.before ≡ 0 }
+    ensures one { result ≡ true → window.now.through ≡ 1 }
+    ensures open { result ≡ true → end_of ending ≡ IsOpen }
+{
+    if window.begins() != 0 {
+        return false;
+    }
+    if window.slots() != 1 {
+        return false;
+    }
+    match ending {
+        GoodEnd::Open => true,
+        GoodEnd::Through => false,
+        GoodEnd::Raced(_) => false,
+    }
+}
+
+/// Takes some faults through the first window, which has the first slot alone, and behind which the good machine goes on.
+fn advance_first<'d, N: World, L: Ledger>(
+    alloc: Global,
+    setup: &Setup<'d, N>,
+    window: &RunWindow<N>,
+    strobes: &WindowStrobes,
+    room: &mut ShardRoom<'d, N>,
+    faults: &mut Vec<ShardFault>,
+    steps: &mut Steps<L>,
+) -> Result<(), NoMemory>
+    requires first { window.now.before ≡ 0 }
+    requires one { window.now.through ≡ 1 }
+    requires more { 1 < length (good_slots N.design N.plan) }
+    requires strobes { AreStrobesOf N.design N.plan window.now.before window.now.through strobes.now }
+    requires behind { HasPassed N.design N.plan window.now.through (passed_behind strobes.now) }
+    requires faults { AllHold (IsShardFault N.design N.plan window.now.before strobes.now.passed) faults.old.items }
+    ensures faults { OnOk result (AllZip (ComesThrough N.design N.plan window.now.through (passed_behind strobes.now)) faults.old.items faults.new.items) }
+    ensures ticks { OnOk result (RisesOwn N.design N.plan (λ tally. steps_of_faults tally window.now.before faults.old.items) (λ tally. steps_of_faults tally window.now.through faults.new.items)
+        steps.old steps.new) }
+{
+    let slots = room.take_slots(alloc, setup)?;
+    let log = &mut room.log;
+    let slots = go_through_first(alloc, setup, window, strobes, slots, log, faults, steps)?;
+    room.put_slots(slots);
+    Ok(())
+}
+
 /// Takes some faults through a window; `now` is the time, in steps, of the last slot before it.
 fn advance_each<'d, N: World, L: Ledger>(
     alloc: Global,
@@ -97,6 +157,10 @@ fn advance_each<'d, N: World, L: Ledger>(
         steps.old steps.new) }
 {
     let trace = window.window();
+    if has_first_alone(trace, strobes.ending) {
+        advance_first(alloc, setup, window, strobes, room, faults, steps)?;
+        return Ok(());
+    }
     if trace.begins() == 0 {
         let log = &mut room.log;
         begin_each(alloc, setup, trace, strobes, log, faults, steps)?;

@@ -31,7 +31,7 @@ pub fn comes_to(slot: u32, passed: usize) -> FaultAt
 }
 
 /// How many of the plan's strobes come up to the time to which faults are graded in a window.
-pub(crate) fn count_behind<N: World>(setup: &Setup<'_, N>, strobes: &WindowStrobes) -> usize
+pub fn count_behind<N: World>(setup: &Setup<'_, N>, strobes: &WindowStrobes) -> usize
     requires { passed_behind strobes.now ≤ length N.plan.strobes }
     ensures { result ≡ passed_behind strobes.now }
 {

@@ -9,7 +9,7 @@ mod at;
 mod begin;
 mod whole;
 
-pub use at::{FaultAt, comes_to};
+pub use at::{FaultAt, comes_to, count_behind};
 pub use begin::{begin_each, listed_fault};
 pub use slot_strobes::{
     Judged, Machine, ShardFault, WindowStrobes, begin_fault, copies_go_in_lockstep, empty_log,

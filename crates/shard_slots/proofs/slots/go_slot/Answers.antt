@@ -23,6 +23,12 @@ leave_each-requires-clause-gone g c κs within =
     have-gone g.N.World.design g.N.World.plan c.args.view.now.window.now.before c.args.view.now.window.now.through c.args.slot c.enter_each.new.faults.items
     c.enter_each.new.ats.items c.in_ok-besides.besides.items c.go_beside.new.besides.items c.in_ok-besides.ensures.entered c.in_ok-go_beside.ensures.besides
 
+pub leave_each-requires-clause-one : goal.leave_each-requires-clause-one
+leave_each-requires-clause-one g c κs within = λ zero. absurd (omega (arith, zero, c.requires.some))
+
+pub leave_each-requires-clause-more : goal.leave_each-requires-clause-more
+leave_each-requires-clause-more g c κs within = λ zero. absurd (omega (arith, zero, c.requires.some))
+
 pub returns-clause-faults : goal.returns-clause-faults
 returns-clause-faults g c =
     zip-join StaysFault stays-on c.args.faults.now.items c.enter_each.new.faults.items c.leave_each.new.faults.items c.in_ok-besides.ensures.faults c.in_ok-leave_each.ensures.faults

@@ -23,7 +23,7 @@ pub go_through-requires-clause-lockstep : goal.go_through-requires-clause-lockst
 go_through-requires-clause-lockstep g c κs within = c.room.invariant.1
 
 pub invariant_of-result : goal.invariant_of-result
-invariant_of-result g c = (c.in_ok-go_through.ensures.room, c.in_ok-go_through.ensures.lockstep)
+invariant_of-result g c = (c.in_ok-go_through.ensures.room, c.in_ok-go_through.ensures.lockstep, c.room.invariant.2)
 
 pub go_through-requires-clause-strobes : goal.go_through-requires-clause-strobes
 go_through-requires-clause-strobes g c κs within =

@@ -2,13 +2,30 @@
 use Rattle.std.proofs.Common.{◌≡◌, sym, ap, subst, ◌∙◌, arith}
 use Rattle.std.specs.List.{AllZip}
 use Rattle.vf_base.specs.Lists.{AllHold}
+use Rattle.good_trace.specs.Slots.{end_of}
 use Rattle.good_trace.specs.Traces.{WindowKept}
 use Rattle.shard_slots.specs.graded_steps.Behind.{RisesWithin}
 use Rattle.shard_slots.specs.window_strobes.Strobes.{AreStrobesOf, passed_behind}
 use Rattle.shard_slots.specs.copy_window.ShardFaults.{IsShardFault}
 use Rattle.shard_slots.specs.window_faults.Steps.{steps_of_faults}
 use Rattle.shard_slots.specs.window_faults.Within.{ComesThrough}
+use Rattle.shard_windows.proofs.Through.{more-behind}
 use Rattle.shard_windows.proofs.advance.advance_each.Goals as goal
+
+pub advance_first-requires-clause-first : goal.advance_first-requires-clause-first
+advance_first-requires-clause-first g c κs within =
+    ap (λ (w : WindowKept). w.before) (sym c.window-trace.ensures) ∙ c.has_first_alone.ensures.first c.if-has_first_alone.true
+
+pub advance_first-requires-clause-one : goal.advance_first-requires-clause-one
+advance_first-requires-clause-one g c κs within =
+    ap (λ (w : WindowKept). w.through) (sym c.window-trace.ensures) ∙ c.has_first_alone.ensures.one c.if-has_first_alone.true
+
+pub advance_first-requires-clause-more : goal.advance_first-requires-clause-more
+advance_first-requires-clause-more g c κs within =
+    let one = ap (λ (w : WindowKept). w.through) (sym c.window-trace.ensures) ∙ c.has_first_alone.ensures.one c.if-has_first_alone.true in
+    let more = more-behind g.N.World.design g.N.World.plan c.args.window.now.through (end_of c.args.strobes.now.ending) c.args.strobes.now.until c.requires.strobes.leads.ends
+    (c.has_first_alone.ensures.open c.if-has_first_alone.true) in
+    omega (arith, one, more)
 
 pub begin_each-requires-clause-first : goal.begin_each-requires-clause-first
 begin_each-requires-clause-first g c κs within = sym c.begins.ensures.number ∙ c.if-begins-eq0.true

@@ -1,5 +1,5 @@
 -- A fault whose grading ended stays as it is; any other is run from the start on.
-use Rattle.std.proofs.Common.{◌≡◌, ℕ, ◌<◌, false, [], ◌∷◌, sym, subst, ◌∙◌, arith}
+use Rattle.std.proofs.Common.{◌≡◌, ℕ, ◌+◌, ◌<◌, false, [], ◌∷◌, inl, refl, sym, subst, ◌∙◌, arith}
 use Rattle.std.specs.Prelude.{is_some}
 use Rattle.v_design.specs.Plain.{fault_of}
 use Rattle.copy_laws.specs.Windows.{RiseAtMostOwn}
@@ -32,6 +32,14 @@ listed_fault-fault-requires-after_bounds g c κs within =
 pub begin_fault-requires-clause-end : goal.begin_fault-requires-clause-end
 begin_fault-requires-clause-end g c κs within = omega (arith, c.slots-end.ensures)
 
+pub begin_fault-requires-clause-some : goal.begin_fault-requires-clause-some
+begin_fault-requires-clause-some g c κs within =
+    let some : c.args.window.now.before < c.args.window.now.through = c.begins-first.ensures.window.some in
+    omega (arith, some, c.slots-end.ensures)
+
+pub begin_fault-requires-clause-tried : goal.begin_fault-requires-clause-tried
+begin_fault-requires-clause-tried g c κs within = inl refl
+
 pub begin_fault-requires-clause-fault : goal.begin_fault-requires-clause-fault
 begin_fault-requires-clause-fault g c κs within =
     subst (λ (n : ℕ). CanBegin g.N.World.design g.N.World.plan c.args.window.now.before n c.args.strobes.now (fault_of c.listed_fault-fault.result) c.args.own.now) (sym c.slots-end.ensures)
@@ -55,6 +63,9 @@ returns-clause-ticks g c tally =
     let own = c.args.own.now in
     let fault = fault_of c.listed_fault-fault.result in
     let some : window.before < window.through = c.begins-first.ensures.window.some in
-    counter-rises c.own_steps_rise.ensures design plan (keeps-rules g.N.World.design c.design-design.result.now c.design-design.ensures.world) tally window.before window.through (omega (arith, some)) own c.begin_fault.new.own fault c.args.steps.now c.begin_fault.new.steps
-    c.listed_fault-fault.ensures c.in_ok-begin_fault.ensures.place
-    (subst (λ (n : ℕ). RiseAtMostOwn design (plan_by (kept_by own) plan) window.before n (fault ∷ []) c.args.steps.now c.begin_fault.new.steps) c.slots-end.ensures c.in_ok-begin_fault.ensures.ticks)
+    let rises =
+    counter-rises c.own_steps_rise.ensures design plan (keeps-rules g.N.World.design c.design-design.result.now c.design-design.ensures.world) tally window.before window.through (omega (arith, some))
+    own c.begin_fault.new.own fault c.args.steps.now (c.begin_fault.new.steps + 0) c.listed_fault-fault.ensures c.in_ok-begin_fault.ensures.place
+    (subst (λ (n : ℕ). RiseAtMostOwn design (plan_by (kept_by own) plan) window.before n (fault ∷ []) c.args.steps.now (c.begin_fault.new.steps + 0)) c.slots-end.ensures
+    c.in_ok-begin_fault.ensures.ticks) in
+    omega (arith, rises)

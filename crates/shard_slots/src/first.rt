@@ -1,0 +1,193 @@
+// The faults of a shard through the first slot.
+
+ghost use Rattle.std.specs.Prelude.{◌≡◌, ◌<◌, length, replicate, IfOk, None, OnOk};
+ghost use Rattle.std.specs.List.{AllZip};
+ghost use Rattle.vf_base.specs.Lists.{AllHold};
+ghost use Rattle.v_design.specs.Designs.{good_machine};
+ghost use Rattle.v_design.specs.States.{start};
+ghost use Rattle.copy_laws.specs.Windows.{good_slots};
+ghost use Rattle.own_gradings.specs.Numbers.{RisesOwn};
+ghost use Rattle.start_copy.specs.Rooms.{IsRoomFor};
+ghost use Rattle.copy_lockstep.specs.window_strobes.Passed.{HasPassed};
+ghost use Rattle.copy_lockstep.specs.window_strobes.Strobes.{AreStrobesOf, passed_behind};
+ghost use Rattle.copy_lockstep.specs.copy_window.ShardFaults.{IsShardFault};
+ghost use Rattle.copy_lockstep.specs.window_faults.Steps.{steps_of_faults};
+ghost use Rattle.copy_lockstep.specs.window_faults.Within.{ComesThrough};
+ghost use Rattle.shard_slots.specs.Slots.{EntersFirst, HaveEnteredFirst};
+
+use crate::leave::leave_each;
+use crate::room::SlotRoom;
+use crate::slots::{go_beside, view_of};
+use causal_monitor::SlotLog;
+use copy_lockstep::{
+    FaultAt, FaultBeside, LockstepWindow, ShardFault, WindowStrobes, enter_slot, listed_fault,
+    rests, searches_begin,
+};
+use copy_state::FaultCopy;
+use four_value::Vec4;
+use good_trace::Setup;
+use run_trace::RunWindow;
+use start_copy::{StartRoom, start_copy};
+use std::alloc::Global;
+use std::sync::ledger::Ledger;
+use v_design::World;
+use vf_base::{NoMemory, Steps};
+
+/// A fault before the first slot enters it with what its faulty machine has otherwise than the good one at the start, whose values are given.
+fn enter_first<N: World>(
+    alloc: Global,
+    setup: &Setup<'_, N>,
+    view: &LockstepWindow<'_, N>,
+    good: &[Vec4],
+    start: &mut StartRoom<'_>,
+    own: &ShardFault,
+) -> Result<FaultBeside, NoMemory>
+    requires first { view.now.window.now.before ≡ 0 }
+    requires slot { 0 < view.now.window.now.through }
+    requires more { 1 < length (good_slots N.design N.plan) }
+    requires good { good.now ≡ (start (good_machine N.design)).values }
+    requires start { IsRoomFor N.design start.old }
+    requires fault { own.now.copy.fault < length N.plan.faults }
+    ensures enters { IfOk result (EntersFirst N.design N.plan view.now.window.now.through own.now) }
+    ensures start { OnOk result (IsRoomFor N.design start.new) }
+{
+    beside_laws::good_run_goes_on();
+    searches_begin();
+    start_copy::starts_in_lockstep();
+    let design = setup.design();
+    let plan = setup.plan();
+    let fault = listed_fault(setup, &own.copy);
+    let number = own.copy.fault();
+    let mut copy = FaultCopy::new(alloc, number);
+    start_copy(fault, good, start, &mut copy)?;
+    let found = enter_slot(alloc, view, fault, &copy, 0)?;
+    match found {
+        None => Ok(rests(alloc, fault, number)),
+        Some(one) => Ok(FaultBeside {
+            fault,
+            one,
+            until: 0,
+            goes: true,
+        }),
+    }
+}
+
+/// The same of each fault of a shard.
+fn enter_first_each<N: World>(
+    alloc: Global,
+    setup: &Setup<'_, N>,
+    view: &LockstepWindow<'_, N>,
+    good: &[Vec4],
+    start: &mut StartRoom<'_>,
+    faults: &[ShardFault],
+) -> Result<Vec<FaultBeside>, NoMemory>
+    requires first { view.now.window.now.before ≡ 0 }
+    requires slot { 0 < view.now.window.now.through }
+    requires more { 1 < length (good_slots N.design N.plan) }
+    requires good { good.now ≡ (start (good_machine N.design)).values }
+    requires start { IsRoomFor N.design start.old }
+    requires faults { AllHold (λ (own : ShardFault). own.copy.fault < length N.plan.faults) faults.now }
+    ensures entered { IfOk result (λ besides. HaveEnteredFirst N.design N.plan view.now.window.now.through faults.now besides.items) }
+    ensures start { OnOk result (IsRoomFor N.design start.new) }
+{
+    let mut besides = Vec::with_capacity(alloc, faults.len())?;
+    'faults: for own in faults {
+        let beside = enter_first(alloc, setup, view, good, start, own)?;
+        besides.push(beside)?;
+    }
+    Ok(besides)
+}
+
+/// So many faults before the first slot.
+fn at_start(alloc: Global, count: usize) -> Result<Vec<FaultAt>, NoMemory>
+    ensures { IfOk result (λ ats. ats.items ≡ replicate count (record { slot = 0; passed = 0; seen = 0; possible = None })) }
+{
+    let first = FaultAt {
+        slot: 0,
+        passed: 0,
+        seen: 0,
+        possible: None,
+    };
+    let ats = vec![in alloc; first; count]?;
+    Ok(ats)
+}
+
+/// Takes the faults of a shard through the first window, which has the first slot alone, and behind which the good machine goes on. The strobes are the window's, and `log` is room
+/// for the log of a slot. `steps` ticks at most once for each own step of the faulty machines. The answer is the room, which may be used again.
+///
+/// # Errors
+///
+/// Want of memory.
+pub fn go_through_first<'d, N: World, L: Ledger>(
+    alloc: Global,
+    setup: &Setup<'d, N>,
+    run: &RunWindow<N>,
+    strobes: &WindowStrobes,
+    room: SlotRoom<'d, N>,
+    log: &mut SlotLog,
+    faults: &mut Vec<ShardFault>,
+    steps: &mut Steps<L>,
+) -> Result<SlotRoom<'d, N>, NoMemory>
+    requires first { run.now.before ≡ 0 }
+    requires one { run.now.through ≡ 1 }
+    requires more { 1 < length (good_slots N.design N.plan) }
+    requires strobes { AreStrobesOf N.design N.plan run.now.before run.now.through strobes.now }
+    requires behind { HasPassed N.design N.plan run.now.through (passed_behind strobes.now) }
+    requires faults { AllHold (IsShardFault N.design N.plan run.now.before strobes.now.passed) faults.old.items }
+    ensures faults { OnOk result (AllZip (ComesThrough N.design N.plan run.now.through (passed_behind strobes.now)) faults.old.items faults.new.items) }
+    ensures ticks { OnOk result (RisesOwn N.design N.plan (λ tally. steps_of_faults tally run.now.before faults.old.items) (λ tally. steps_of_faults tally run.now.through faults.new.items)
+        steps.old steps.new) }
+{
+    beside_laws::faults_go_on();
+    beside_laws::good_run_goes_on();
+    order_laws::first_run_goes_on();
+    own_gradings::own_steps_rise();
+    phase_order::phases_follow();
+    searches_begin();
+    let design = setup.design();
+    let plan = setup.plan();
+    let mut machine = room.machine;
+    let mut lockstep = room.lockstep;
+    let mut touches = room.touches;
+    let mut start = room.start;
+    let view = view_of(run);
+    let mut ats = at_start(alloc, faults.len())?;
+    lockstep.before.go_to(setup, view.window, 0)?;
+    let mut besides = enter_first_each(
+        alloc,
+        setup,
+        &view,
+        lockstep.before.values(),
+        &mut start,
+        faults,
+    )?;
+    go_beside(
+        alloc,
+        setup,
+        &view,
+        &mut lockstep,
+        &mut touches,
+        &mut besides,
+        0,
+        steps,
+    )?;
+    leave_each(
+        alloc,
+        setup,
+        view.window,
+        strobes,
+        &mut machine,
+        log,
+        faults,
+        &mut ats,
+        besides,
+        0,
+        steps,
+    )?;
+    Ok(SlotRoom {
+        machine,
+        lockstep,
+        touches,
+        start,
+    })
+}
