@@ -9,7 +9,7 @@ ghost use Rattle.beside_phases.specs.Laws.{OwnStepsGoOn};
 pub use lockstep_block::{
     FaultInSlot, FilterRoom, GoodMoment, LockstepCopy, LockstepRoom, WindowWakes, begin_slot,
     follow_block, is_free, kept_ends, lanes_tell_turns, limits_tell, places_are_told,
-    run_own_block, stand_at, steps_go_on, turn_writes,
+    run_own_block, stand_at, turn_writes,
 };
 
 /// The steps that a faulty machine took itself, and its numbers of runs, from place to place of a slot.

@@ -5,12 +5,16 @@ mod Slots
 mod Taking
 mod Within
 pub use Rattle.lockstep_due.proofs.window_faults as window_faults
+pub use Rattle.lockstep_due.proofs.lockstep_shards as lockstep_shards
 pub use Rattle.lockstep_due.proofs.copy_pass as copy_pass
 pub use Rattle.lockstep_due.proofs.copy_window as copy_window
 pub use Rattle.lockstep_slot.proofs.phase_faults as phase_faults
 pub use Rattle.lockstep_slot.proofs.slot_laws as slot_laws
 pub use Rattle.lockstep_slot.proofs.lockstep_block as lockstep_block
+pub use Rattle.lockstep_slot.proofs.lockstep_room as lockstep_room
 pub use Rattle.lockstep_due.proofs.copy_skip as copy_skip
+pub use Rattle.lockstep_slot.proofs.moment_laws as moment_laws
 pub use Rattle.lockstep_slot.proofs.next_touches as next_touches
 pub use Rattle.lockstep_due.proofs.window_strobes as window_strobes
 pub use Rattle.lockstep_due.proofs.fault_grade as fault_grade
+pub use Rattle.lockstep_slot.proofs.block_events as block_events

@@ -3,6 +3,7 @@ pub mod Faults
 pub mod Entered
 pub mod Steps
 pub use Rattle.lockstep_due.specs.window_faults as window_faults
+pub use Rattle.lockstep_due.specs.lockstep_shards as lockstep_shards
 pub use Rattle.lockstep_due.specs.copy_pass as copy_pass
 pub use Rattle.lockstep_due.specs.copy_window as copy_window
 pub use Rattle.lockstep_due.specs.copy_room as copy_room
@@ -10,7 +11,9 @@ pub use Rattle.lockstep_slot.specs as lockstep_slot
 pub use Rattle.lockstep_slot.specs.phase_faults as phase_faults
 pub use Rattle.lockstep_slot.specs.slot_laws as slot_laws
 pub use Rattle.lockstep_slot.specs.lockstep_block as lockstep_block
+pub use Rattle.lockstep_slot.specs.lockstep_room as lockstep_room
 pub use Rattle.lockstep_due.specs.copy_skip as copy_skip
+pub use Rattle.lockstep_slot.specs.moment_laws as moment_laws
 pub use Rattle.lockstep_slot.specs.next_touches as next_touches
 pub use Rattle.lockstep_due.specs.lockstep_copies as lockstep_copies
 pub use Rattle.lockstep_due.specs.window_beside as window_beside
@@ -18,3 +21,4 @@ pub use Rattle.lockstep_due.specs.window_strobes as window_strobes
 pub use Rattle.lockstep_due.specs.graded_steps as graded_steps
 pub use Rattle.lockstep_due.specs.fault_grade as fault_grade
 pub use Rattle.lockstep_due.specs.machine as machine
+pub use Rattle.lockstep_slot.specs.block_events as block_events

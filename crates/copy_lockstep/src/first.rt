@@ -45,7 +45,7 @@ pub fn leave_first<N: World>(
 {
     beside_laws::good_run_goes_on();
     fault_strobes::strobed_gradings_go_on();
-    start_laws::first_slot_goes_on();
+    lockstep_slot::first_slot_goes_on();
     shards_go_in_lockstep();
     let design = setup.design();
     own.strobed.forget();

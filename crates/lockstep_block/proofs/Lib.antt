@@ -12,7 +12,6 @@ pub use Rattle.faulty_block.proofs.lockstep_exchange as lockstep_exchange
 pub use Rattle.faulty_block.proofs.copy_skip as copy_skip
 pub use Rattle.lockstep_steps.proofs as lockstep_steps
 pub use Rattle.lockstep_filter.proofs as lockstep_filter
-pub use Rattle.lockstep_steps.proofs.lockstep_notes as lockstep_notes
 pub use Rattle.good_moment.proofs.moment_laws as moment_laws
 pub use Rattle.lockstep_steps.proofs.lockstep_slots as lockstep_slots
 pub use Rattle.faulty_block.proofs.block_events as block_events

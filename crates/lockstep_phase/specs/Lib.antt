@@ -6,6 +6,7 @@ pub use Rattle.lockstep_turn.specs.lockstep_block as lockstep_block
 pub use Rattle.lockstep_turn.specs.lockstep_room as lockstep_room
 pub use Rattle.lockstep_turn.specs.copy_skip as copy_skip
 pub use Rattle.lockstep_turn.specs.lockstep_copy as lockstep_copy
+pub use Rattle.lockstep_turn.specs.start_laws as start_laws
 pub use Rattle.lockstep_turn.specs.lockstep_steps as lockstep_steps
 pub use Rattle.lockstep_turn.specs.moment_laws as moment_laws
 pub use Rattle.lockstep_turn.specs.next_touches as next_touches

@@ -12,8 +12,8 @@ mod pass;
 mod phase;
 
 pub use lockstep_turn::{
-    FaultBeside, FaultInSlot, LockstepRoom, LockstepWindow, NextTouches, begin_slot, kept_ends,
-    lanes_tell_turns, own_steps_go_on, slots_are_counted, stand_at, steps_go_on, take_turn,
-    turn_each,
+    FaultBeside, FaultInSlot, LockstepRoom, LockstepWindow, NextTouches, begin_slot,
+    first_slot_goes_on, kept_ends, lanes_tell_turns, own_steps_go_on, slots_are_counted, stand_at,
+    steps_go_on, take_turn, turn_each,
 };
 pub use phase::all_through_phase;

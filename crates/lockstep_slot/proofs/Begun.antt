@@ -25,7 +25,7 @@ use Rattle.lockstep_phase.specs.beside_phases.Laws.{OwnStepsGoOn}
 use Rattle.lockstep_phase.specs.moment_laws.Shown.{MomentKept}
 use Rattle.moments_stand.specs.Standing.{MomentsStand}
 use Rattle.race_notes.specs.Notes.{HasNoNotes}
-use Rattle.start_laws.specs.Starts.{FirstSlotGoesOn, StartInLockstep}
+use Rattle.lockstep_phase.specs.start_laws.Starts.{FirstSlotGoesOn, StartInLockstep}
 use Rattle.trace_window.specs.Moments.{window_events}
 use Rattle.lockstep_phase.specs.window_places.Passing.{events_before}
 use Rattle.lockstep_phase.specs.slot_laws.Copies.{BeginsBehind, BeginsFirst, MayBeginSlot, lockstep_differences}

@@ -23,7 +23,7 @@ use Rattle.lockstep_phase.specs.moment_laws.Shown.{MomentKept}
 use Rattle.moments_stand.specs.Standing.{MomentsStand}
 use Rattle.phase_order.specs.Order.{PhasesFollow}
 use Rattle.race_notes.specs.Notes.{HasNoNotes}
-use Rattle.start_laws.specs.Starts.{FirstSlotGoesOn}
+use Rattle.lockstep_phase.specs.start_laws.Starts.{FirstSlotGoesOn}
 use Rattle.lockstep_phase.specs.slot_laws.Copies.{MayBeginSlot, lockstep_differences}
 use Rattle.lockstep_phase.specs.slot_laws.Laws.{events_all}
 use Rattle.lockstep_phase.specs.slot_laws.Slots.{IsRoomAtSlot, IsRoomIn, PhaseIsThrough, SlotGoesOn, SlotMayGoOn, TurnsAll, further}

@@ -20,7 +20,7 @@ use Rattle.lockstep_phase.specs.lockstep_steps.Laws.{StepsGoOn}
 use Rattle.lockstep_phase.specs.beside_phases.Laws.{OwnStepsGoOn}
 use Rattle.lockstep_phase.specs.moment_laws.Shown.{MomentKept}
 use Rattle.moments_stand.specs.Standing.{MomentsStand}
-use Rattle.start_laws.specs.Starts.{FirstSlotGoesOn}
+use Rattle.lockstep_phase.specs.start_laws.Starts.{FirstSlotGoesOn}
 use Rattle.phase_order.specs.Order.{PhasesFollow}
 use Rattle.lockstep_phase.specs.slot_laws.Laws.{SlotsAreCounted}
 use Rattle.lockstep_phase.specs.slot_laws.Slots.{IsRoomAtSlot, IsRoomIn, further}

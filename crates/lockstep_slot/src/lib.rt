@@ -11,5 +11,7 @@ mod enter;
 mod slot;
 
 pub use enter::{enter_slot, rests};
-pub use lockstep_phase::{FaultBeside, FaultInSlot, LockstepRoom, LockstepWindow, NextTouches};
+pub use lockstep_phase::{
+    FaultBeside, FaultInSlot, LockstepRoom, LockstepWindow, NextTouches, first_slot_goes_on,
+};
 pub use slot::all_through_slot;

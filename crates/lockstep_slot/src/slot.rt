@@ -96,7 +96,7 @@ fn go_through_phases<N: World, L: Ledger>(
     lockstep_phase::steps_go_on();
     moments_stand::moments_stand();
     phase_order::phases_follow();
-    start_laws::first_slot_goes_on();
+    lockstep_phase::first_slot_goes_on();
     lockstep_phase::slots_are_counted();
     let _plan = setup.plan();
     'phases: while room.before.phase() + 1 < last {

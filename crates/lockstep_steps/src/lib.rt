@@ -9,7 +9,7 @@
 
 ghost use Rattle.lockstep_steps.specs.Laws.{StepsGoOn};
 
-pub use lockstep_notes::{Standing, note_block, places_in_windows};
+pub use lockstep_notes::{Standing, note_block, notes_go_on, places_in_windows, slots_in_lockstep};
 
 /// A slot in lockstep from step to step.
 pub fn steps_go_on()

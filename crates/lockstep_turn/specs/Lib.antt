@@ -6,6 +6,7 @@ pub use Rattle.phase_faults.specs.lockstep_block as lockstep_block
 pub use Rattle.phase_faults.specs.lockstep_room as lockstep_room
 pub use Rattle.phase_faults.specs.copy_skip as copy_skip
 pub use Rattle.phase_faults.specs.lockstep_copy as lockstep_copy
+pub use Rattle.phase_faults.specs.start_laws as start_laws
 pub use Rattle.phase_faults.specs.lockstep_steps as lockstep_steps
 pub use Rattle.phase_faults.specs.lockstep_filter as lockstep_filter
 pub use Rattle.phase_faults.specs.moment_laws as moment_laws

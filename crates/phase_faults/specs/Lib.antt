@@ -5,6 +5,7 @@ pub use Rattle.slot_laws.specs.lockstep_block as lockstep_block
 pub use Rattle.slot_laws.specs.lockstep_room as lockstep_room
 pub use Rattle.slot_laws.specs.copy_skip as copy_skip
 pub use Rattle.slot_laws.specs.lockstep_copy as lockstep_copy
+pub use Rattle.slot_laws.specs.start_laws as start_laws
 pub use Rattle.slot_laws.specs.lockstep_steps as lockstep_steps
 pub use Rattle.slot_laws.specs.lockstep_filter as lockstep_filter
 pub use Rattle.slot_laws.specs.good_moment as good_moment

@@ -14,8 +14,9 @@ pub use ahead::{least_stop, look_ahead, look_ahead_all, stop_of, stops_of};
 pub use beside::FaultBeside;
 pub use next_touches::NextTouches;
 pub use slot_laws::{
-    FaultInSlot, FilterRoom, GoodMoment, LockstepCopy, LockstepRoom, begin_slot, follow_block,
-    is_free, kept_ends, lanes_tell_turns, limits_tell, own_steps_go_on, places_are_told,
-    run_own_block, slots_are_counted, stand_at, steps_go_on, turn_writes,
+    FaultInSlot, FilterRoom, GoodMoment, LockstepCopy, LockstepRoom, begin_slot,
+    first_slot_goes_on, follow_block, is_free, kept_ends, lanes_tell_turns, limits_tell,
+    own_steps_go_on, places_are_told, run_own_block, slots_are_counted, stand_at, steps_go_on,
+    turn_writes,
 };
 pub use view::LockstepWindow;

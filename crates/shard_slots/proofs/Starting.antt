@@ -20,14 +20,14 @@ use Rattle.copy_state.specs.Kept.{CopyKept, nothing_kept}
 use Rattle.lockstep_laws.specs.Lockstep.{AreInLockstep}
 use Rattle.lockstep_laws.specs.Slots.{KeepsNothingSame}
 use Rattle.start_copy.specs.Start.{KeepsStart, StartsInLockstep, value_differences}
-use Rattle.lockstep_slots.specs.Kept.{kept_of, kept_within}
+use Rattle.start_copy.specs.lockstep_slots.Kept.{kept_of, kept_within}
 use Rattle.copy_lockstep.specs.slot_laws.Copies.{MayBeginSlot, lockstep_differences}
-use Rattle.block_events.specs.declared.runner.Runner.{Runner}
-use Rattle.lockstep_room.specs.declared.counts.Counts.{Counts}
+use Rattle.copy_lockstep.specs.block_events.declared.runner.Runner.{Runner}
+use Rattle.copy_lockstep.specs.lockstep_room.declared.counts.Counts.{Counts}
 use Rattle.copy_lockstep.specs.lockstep_block.Rooms.{IsLockstepRoom}
-use Rattle.moment_laws.specs.Places.{IsAtSlot}
-use Rattle.moment_laws.specs.Shown.{MomentKept}
-use Rattle.lockstep_slots.specs.Places.{first_place, state_there}
+use Rattle.copy_lockstep.specs.moment_laws.Places.{IsAtSlot}
+use Rattle.copy_lockstep.specs.moment_laws.Shown.{MomentKept}
+use Rattle.start_copy.specs.lockstep_slots.Places.{first_place, state_there}
 use Rattle.copy_lockstep.proofs.slot_laws.Begins.{first-begins, slot-shown}
 use Rattle.copy_lockstep.proofs.slot_laws.Rooms.{shows-whole}
 use Rattle.copy_lockstep.specs.copy_window.declared.fault.ShardFault.{ShardFault}
@@ -36,7 +36,7 @@ use Rattle.copy_lockstep.specs.copy_window.ShardFaults.{IsShardFault}
 use Rattle.copy_lockstep.specs.window_strobes.Passed.{HasPassed}
 use Rattle.copy_lockstep.specs.window_faults.Within.{IsWithin}
 use Rattle.copy_lockstep.specs.window_faults.declared.at.FaultAt.{FaultAt}
-use Rattle.lockstep_shards.proofs.Laws.{fine-there, last, last-there}
+use Rattle.copy_lockstep.proofs.lockstep_shards.Laws.{fine-there, last, last-there}
 use Rattle.shard_slots.specs.Slots.{Enters, EntersFirst, HaveEntered, HaveEnteredFirst}
 
 -- Where a copy may begin the first slot

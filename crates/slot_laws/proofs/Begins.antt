@@ -14,7 +14,7 @@ use Rattle.beside_phases.specs.moment_laws.Shown.{MomentKept}
 use Rattle.beside_phases.proofs.moment_laws.Following.{slot-order}
 use Rattle.moments_stand.specs.Standing.{AllMayStand, MomentsStand}
 use Rattle.beside_phases.specs.lockstep_block.Rooms.{IsRunnerAt, MayStandThere}
-use Rattle.beside_phases.specs.lockstep_slots.Places.{Place, first_place}
+use Rattle.start_laws.specs.lockstep_slots.Places.{Place, first_place}
 use Rattle.phase_order.specs.Order.{FollowOrder, PhasesFollow}
 use Rattle.slot_laws.specs.Slots.{IsRoomAtSlot}
 

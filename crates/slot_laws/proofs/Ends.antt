@@ -19,14 +19,14 @@ use Rattle.copy_laws.specs.Differences.{Ascend}
 use Rattle.copy_laws.specs.Windows.{good_slots, window_slots}
 use Rattle.copy_state.specs.Kept.{CopyKept}
 use Rattle.beside_phases.specs.moment_laws.Shown.{MomentKept}
-use Rattle.beside_phases.specs.lockstep_copies.Copies.{IsCopyInLockstep, own_begins}
+use Rattle.start_laws.specs.lockstep_copies.Copies.{IsCopyInLockstep, own_begins}
 use Rattle.beside_phases.specs.lockstep_copy.Kept.{kept_by}
 use Rattle.beside_phases.specs.lockstep_copy.Laws.{KeptEnds}
 use Rattle.beside_phases.specs.lockstep_copy.declared.own.LockstepCopy.{LockstepCopy}
-use Rattle.beside_phases.specs.lockstep_slots.Kept.{LockstepKept, kept_of}
-use Rattle.beside_phases.specs.lockstep_slots.Places.{Place, first_place, steps_left}
-use Rattle.beside_phases.specs.lockstep_steps.Going.{IsGoing}
-use Rattle.beside_phases.specs.lockstep_steps.Laws.{StepsGoOn}
+use Rattle.start_laws.specs.lockstep_slots.Kept.{LockstepKept, kept_of}
+use Rattle.start_laws.specs.lockstep_slots.Places.{Place, first_place, steps_left}
+use Rattle.start_laws.specs.lockstep_steps.Going.{IsGoing}
+use Rattle.start_laws.specs.lockstep_steps.Laws.{StepsGoOn}
 use Rattle.beside_phases.specs.lockstep_block.Blocks.{IsPhaseBeside}
 use Rattle.own_slots.specs.Slots.{OwnSoFar}
 use Rattle.beside_phases.specs.Laws.{OwnStepsGoOn}

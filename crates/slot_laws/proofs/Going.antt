@@ -21,16 +21,16 @@ use Rattle.beside_phases.specs.lockstep_copy.declared.own.LockstepCopy.{Lockstep
 use Rattle.beside_phases.specs.lockstep_exchange.Exchange.{MakesLockstep}
 use Rattle.beside_phases.proofs.lockstep_exchange.Fits.{object-there, process-there}
 use Rattle.beside_phases.specs.lockstep_filter.Phases.{IsPhaseNoted}
-use Rattle.beside_phases.specs.lockstep_notes.Notes.{marks_of}
+use Rattle.start_laws.specs.lockstep_notes.Notes.{marks_of}
 use Rattle.beside_phases.specs.lockstep_places.Limits.{LimitsTell}
-use Rattle.beside_phases.specs.lockstep_slots.Pairs.{LeavesNoConflict}
-use Rattle.beside_phases.specs.lockstep_slots.Places.{Place, state_there}
-use Rattle.beside_phases.specs.lockstep_steps.Going.{IsGoing}
-use Rattle.beside_phases.specs.lockstep_steps.Laws.{StepsGoOn}
+use Rattle.start_laws.specs.lockstep_slots.Pairs.{LeavesNoConflict}
+use Rattle.start_laws.specs.lockstep_slots.Places.{Place, state_there}
+use Rattle.start_laws.specs.lockstep_steps.Going.{IsGoing}
+use Rattle.start_laws.specs.lockstep_steps.Laws.{StepsGoOn}
 use Rattle.beside_phases.specs.Laws.{OwnStepsGoOn}
 use Rattle.race_notes.specs.Notes.{NotesKept}
 use Rattle.trace_window.specs.Moments.{window_events}
-use Rattle.beside_phases.specs.window_places.Windows.{TablesLeave}
+use Rattle.start_laws.specs.window_places.Windows.{TablesLeave}
 use Rattle.slot_laws.specs.Slots.{IsRoomIn, SlotGoesOn, StopsAt, further}
 use Rattle.good_runs.specs.declared.tried.TriedStep.{TriedStep}
 use Rattle.run_numbers.specs.declared.numbers.RunApart.{RunApart}

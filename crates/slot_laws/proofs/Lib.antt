@@ -12,9 +12,9 @@ pub use Rattle.beside_phases.proofs as beside_phases
 pub use Rattle.beside_phases.proofs.lockstep_block as lockstep_block
 pub use Rattle.beside_phases.proofs.lockstep_room as lockstep_room
 pub use Rattle.beside_phases.proofs.copy_skip as copy_skip
-pub use Rattle.beside_phases.proofs.lockstep_steps as lockstep_steps
+pub use Rattle.start_laws.proofs.lockstep_steps as lockstep_steps
 pub use Rattle.beside_phases.proofs.lockstep_filter as lockstep_filter
-pub use Rattle.beside_phases.proofs.lockstep_notes as lockstep_notes
+pub use Rattle.start_laws.proofs.lockstep_notes as lockstep_notes
 pub use Rattle.beside_phases.proofs.moment_laws as moment_laws
-pub use Rattle.beside_phases.proofs.lockstep_slots as lockstep_slots
+pub use Rattle.start_laws.proofs.lockstep_slots as lockstep_slots
 pub use Rattle.beside_phases.proofs.block_events as block_events

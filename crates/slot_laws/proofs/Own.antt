@@ -16,10 +16,10 @@ use Rattle.beside_phases.specs.lockstep_block.Rooms.{IsRunnerAt}
 use Rattle.beside_phases.specs.lockstep_copy.declared.own.LockstepCopy.{LockstepCopy}
 use Rattle.beside_phases.specs.lockstep_room.declared.counts.Counts.{Counts}
 use Rattle.beside_phases.specs.lockstep_room.Rooms.{AreCounts}
-use Rattle.beside_phases.specs.lockstep_slots.Places.{Place, behind_events}
+use Rattle.start_laws.specs.lockstep_slots.Places.{Place, behind_events}
 use Rattle.race_notes.specs.Notes.{NotesKept}
 use Rattle.trace_window.specs.Moments.{window_events}
-use Rattle.beside_phases.specs.window_places.Passing.{events_before}
+use Rattle.start_laws.specs.window_places.Passing.{events_before}
 use Rattle.slot_laws.specs.Slots.{GoesFurther, GoesOverBlock, SlotGoesOn, further}
 use Rattle.slot_laws.proofs.Further.{further-behind, further-none}
 use Rattle.slot_laws.proofs.Rooms.{beside}

@@ -6,7 +6,7 @@ use Rattle.v_design.specs.Runs.{FirstSlot}
 use Rattle.v_design.specs.States.{State}
 use Rattle.beside_phases.specs.block_events.declared.runner.Runner.{Runner}
 use Rattle.beside_phases.specs.lockstep_copy.declared.own.LockstepCopy.{LockstepCopy}
-use Rattle.beside_phases.specs.lockstep_slots.Places.{Place}
+use Rattle.start_laws.specs.lockstep_slots.Places.{Place}
 use Rattle.beside_phases.specs.moment_laws.Shown.{MomentKept}
 use Rattle.race_notes.specs.Notes.{NotesKept}
 use Rattle.slot_laws.specs.Slots.{HasComeOn, PhaseEndsAt, SlotGoesOn, further}

@@ -10,7 +10,7 @@ use Rattle.beside_phases.specs.moment_laws.Passing.{HasBlock, PassesBlock}
 use Rattle.beside_phases.specs.moment_laws.Places.{IsInWindow, IsShownAt}
 use Rattle.beside_phases.specs.moment_laws.Shown.{MomentKept, ShowsState}
 use Rattle.beside_phases.specs.moment_laws.Shown as moments
-use Rattle.beside_phases.specs.lockstep_slots.Places.{Place, state_there, behind_events}
+use Rattle.start_laws.specs.lockstep_slots.Places.{Place, state_there, behind_events}
 use Rattle.beside_phases.specs.lockstep_room.declared.counts.Counts.{Counts}
 use Rattle.beside_phases.specs.lockstep_room.Rooms.{AreCounts}
 use Rattle.beside_phases.specs.lockstep_block.Rooms.{CanFollow, IsBesideBlock, IsLockstepRoom, IsRunnerAt}

@@ -22,14 +22,14 @@ use Rattle.beside_phases.specs.lockstep_copy.declared.own.LockstepCopy.{Lockstep
 use Rattle.lockstep_index.specs.Writes.{OwnWrites, with_writes}
 use Rattle.lockstep_laws.specs.Lockstep.{due_times}
 use Rattle.lockstep_laws.specs.Turning.{turned_process}
-use Rattle.beside_phases.specs.lockstep_slots.Kept.{LockstepKept, turned_kept, turned_writes}
-use Rattle.beside_phases.specs.lockstep_slots.Places.{IsFineSlot, IsPlaceOf, Place, next_phase, state_there}
-use Rattle.beside_phases.proofs.lockstep_slots.Followed.{all-passed, followed}
-use Rattle.beside_phases.proofs.lockstep_slots.Kept.{process-turned}
-use Rattle.beside_phases.specs.lockstep_steps.Going.{IsGoing}
-use Rattle.beside_phases.specs.lockstep_steps.Laws.{GoesOverTurn, StepsGoOn}
+use Rattle.start_laws.specs.lockstep_slots.Kept.{LockstepKept, turned_kept, turned_writes}
+use Rattle.start_laws.specs.lockstep_slots.Places.{IsFineSlot, IsPlaceOf, Place, next_phase, state_there}
+use Rattle.start_laws.proofs.lockstep_slots.Followed.{all-passed, followed}
+use Rattle.start_laws.proofs.lockstep_slots.Kept.{process-turned}
+use Rattle.start_laws.specs.lockstep_steps.Going.{IsGoing}
+use Rattle.start_laws.specs.lockstep_steps.Laws.{GoesOverTurn, StepsGoOn}
 use Rattle.beside_phases.specs.Laws.{OwnStepsGoOn}
-use Rattle.beside_phases.proofs.lockstep_steps.Events.{TurnsTo, turns-to}
+use Rattle.start_laws.proofs.lockstep_steps.Events.{TurnsTo, turns-to}
 use Rattle.moments_stand.specs.Standing.{AllMayStand}
 use Rattle.phase_blocks.proofs.Taken.{lane-none}
 use Rattle.phase_order.specs.Order.{PhasesFollow}

@@ -7,8 +7,8 @@ use Rattle.v_design.specs.Grades.{Fine, slot_outcome}
 use Rattle.copy_laws.specs.Differences.{Differences}
 use Rattle.copy_laws.specs.Windows.{good_slots}
 use Rattle.copy_state.specs.Kept.{CopyKept}
-use Rattle.beside_phases.specs.lockstep_copies.Copies.{IsCopyInLockstep, own_begins}
-use Rattle.beside_phases.specs.lockstep_slots.Kept.{kept_of}
+use Rattle.start_laws.specs.lockstep_copies.Copies.{IsCopyInLockstep, own_begins}
+use Rattle.start_laws.specs.lockstep_slots.Kept.{kept_of}
 use Rattle.start_laws.specs.Starts.{StartInLockstep}
 
 -- the differences that a copy of values and updates keeps

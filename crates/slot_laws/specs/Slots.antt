@@ -14,8 +14,8 @@ use Rattle.beside_phases.specs.moment_laws.Shown.{MomentKept}
 use Rattle.beside_phases.specs.lockstep_copy.Kept.{StaysElsewhere, kept_by}
 use Rattle.beside_phases.specs.lockstep_copy.declared.own.LockstepCopy.{LockstepCopy}
 use Rattle.lockstep_index.specs.Writes.{OwnWrites}
-use Rattle.beside_phases.specs.lockstep_slots.Kept.{turned_writes}
-use Rattle.beside_phases.specs.lockstep_slots.Places.{Place, state_there, behind_events, first_place}
+use Rattle.start_laws.specs.lockstep_slots.Kept.{turned_writes}
+use Rattle.start_laws.specs.lockstep_slots.Places.{Place, state_there, behind_events, first_place}
 use Rattle.phase_blocks.specs.Blocks.{IsBetweenRuns, IsWholeBlock}
 use Rattle.race_notes.specs.Notes.{NotesKept}
 use Rattle.wait_index.specs.Waits.{WaitsAreOfBodies}

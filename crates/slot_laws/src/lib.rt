@@ -12,8 +12,9 @@ ghost use Rattle.slot_laws.specs.Laws.{NextBlocksAreOne, SlotsAreCounted};
 pub use beside_phases::{
     FaultInSlot, FilterRoom, GoodMoment, LockstepCopy, LockstepRoom, WindowWakes, begin_slot,
     follow_block, is_free, kept_ends, lanes_tell_turns, limits_tell, own_steps_go_on,
-    places_are_told, run_own_block, stand_at, steps_go_on, turn_writes,
+    places_are_told, run_own_block, stand_at, turn_writes,
 };
+pub use start_laws::{first_slot_goes_on, steps_go_on};
 
 /// Of the events that a machine takes one part at most is its next block.
 pub fn next_blocks_are_one()

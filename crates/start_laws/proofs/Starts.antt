@@ -28,15 +28,15 @@ use Rattle.lockstep_laws.specs.Slots.{MayGoInLockstep, AreListed, KeepsNothingSa
 use Rattle.lockstep_waits.specs.Texts.{WaitsGoOn}
 use Rattle.moments_stand.specs.Standing.{AllMayStand, MomentsStand}
 use Rattle.race_notes.specs.Notes.{NotesKept, HasNoNotes}
-use Rattle.lockstep_slots.proofs.Followed.{first-phase}
-use Rattle.lockstep_slots.proofs.Kept.{just-listed}
-use Rattle.start_laws.specs.lockstep_slots.Kept.{LockstepKept, kept_within, AreJustKept}
-use Rattle.start_laws.specs.lockstep_slots.Places.{IsFineSlot, first_place, steps_left}
-use Rattle.start_laws.specs.lockstep_slots.Standing.{EndInLockstep, SlotsInLockstep}
-use Rattle.start_laws.specs.lockstep_notes.window_places.Windows.{PlacesInWindows}
-use Rattle.start_laws.specs.lockstep_notes.Laws.{NotesGoOn}
-use Rattle.start_laws.specs.lockstep_notes.Notes.{marks_of}
-use Rattle.start_laws.specs.lockstep_copies.Copies.{IsCopyInLockstep}
+use Rattle.lockstep_steps.proofs.lockstep_slots.Followed.{first-phase}
+use Rattle.lockstep_steps.proofs.lockstep_slots.Kept.{just-listed}
+use Rattle.lockstep_steps.specs.lockstep_slots.Kept.{LockstepKept, kept_within, AreJustKept}
+use Rattle.lockstep_steps.specs.lockstep_slots.Places.{IsFineSlot, first_place, steps_left}
+use Rattle.lockstep_steps.specs.lockstep_slots.Standing.{EndInLockstep, SlotsInLockstep}
+use Rattle.lockstep_steps.specs.lockstep_notes.window_places.Windows.{PlacesInWindows}
+use Rattle.lockstep_steps.specs.lockstep_notes.Laws.{NotesGoOn}
+use Rattle.lockstep_steps.specs.lockstep_notes.Notes.{marks_of}
+use Rattle.lockstep_steps.specs.lockstep_copies.Copies.{IsCopyInLockstep}
 use Rattle.lockstep_steps.specs.Going.{IsGoing}
 use Rattle.start_laws.specs.Starts.{FirstSlotGoesOn, StartInLockstep}
 

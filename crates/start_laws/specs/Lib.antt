@@ -1,4 +1,6 @@
 pub mod Starts
+pub use Rattle.lockstep_steps.specs as lockstep_steps
 pub use Rattle.lockstep_steps.specs.lockstep_notes as lockstep_notes
+pub use Rattle.lockstep_steps.specs.window_places as window_places
 pub use Rattle.lockstep_steps.specs.lockstep_copies as lockstep_copies
 pub use Rattle.lockstep_steps.specs.lockstep_slots as lockstep_slots

@@ -15,9 +15,9 @@ use Rattle.wait_index.specs.Waits.{WaitsAreOfBodies}
 use Rattle.race_notes.specs.Notes.{NotesKept, HasNoNotes}
 use Rattle.lockstep_laws.specs.Lockstep.{AreInLockstep}
 use Rattle.lockstep_laws.specs.Slots.{KeepsNothingSame}
-use Rattle.start_laws.specs.lockstep_slots.Kept.{LockstepKept, kept_within, AreJustKept}
-use Rattle.start_laws.specs.lockstep_slots.Places.{Place, first_place, steps_left}
-use Rattle.start_laws.specs.lockstep_copies.Copies.{IsCopyInLockstep}
+use Rattle.lockstep_steps.specs.lockstep_slots.Kept.{LockstepKept, kept_within, AreJustKept}
+use Rattle.lockstep_steps.specs.lockstep_slots.Places.{Place, first_place, steps_left}
+use Rattle.lockstep_steps.specs.lockstep_copies.Copies.{IsCopyInLockstep}
 use Rattle.lockstep_steps.specs.Going.{IsGoing}
 
 -- at the start both machines are in lockstep with what is kept, and nothing of it is the good machine's

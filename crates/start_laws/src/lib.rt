@@ -7,6 +7,8 @@
 
 ghost use Rattle.start_laws.specs.Starts.{FirstSlotGoesOn};
 
+pub use lockstep_steps::steps_go_on;
+
 /// The first slot in lockstep, where it begins and where it ends.
 pub fn first_slot_goes_on()
     ensures { FirstSlotGoesOn }
@@ -16,9 +18,9 @@ pub fn first_slot_goes_on()
     copy_laws::own_runs();
     lockstep_laws::lockstep_stands();
     lockstep_laws::nothing_becomes_same();
-    lockstep_notes::notes_go_on();
-    lockstep_notes::places_in_windows();
-    lockstep_notes::slots_in_lockstep();
+    lockstep_steps::notes_go_on();
+    lockstep_steps::places_in_windows();
+    lockstep_steps::slots_in_lockstep();
     lockstep_waits::only_texts_wait();
     moments_stand::moments_stand();
     order_laws::first_run_goes_on();
