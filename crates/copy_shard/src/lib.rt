@@ -7,8 +7,10 @@
 //! of those of their runs that the good machine doesn't take as well.
 //!
 //! `advance_together` takes the claimed shards of a worker through a window side by side, with the same contract for each: so the good machine's states are gone through once for all.
+//! `Shard::copy` makes the same shard once more.
 #![tactic(auto)]
 
+mod copied;
 mod shard;
 mod together;
 
