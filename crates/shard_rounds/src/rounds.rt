@@ -108,6 +108,7 @@ fn grade_run<N: World, R: Threads + Sync, G: Gate + Sync, L: Ledger + Send + Syn
     ensures outcome { IfOk result (IsOutcome N.design N.plan (representatives_of place.now.shards.now) place.now.board.now) }
     ensures ticks { IfOk result (OutcomeTicks N.design N.plan (representatives_of place.now.shards.now) (sum own.old + sum steps.old) (sum own.new + sum steps.new)) }
 {
+    own_gradings::own_steps_rise();
     let count = steps.len() as u32;
     let window = match first_window(place.setup, ahead, own)? {
         First::Window(window) => window,

@@ -4,7 +4,6 @@ ghost use Rattle.std.specs.Prelude.{◌≡◌, ◌+◌, ◌<◌, ◌≤◌, ◌^
 ghost use Rattle.verdict_words.specs.JobSeats.{slots_of};
 ghost use Rattle.verdict_words.specs.Seats.{view, claims_of};
 ghost use Rattle.verdict_words.specs.Views.{first_view, joined, lent_share, newcomer, with_claim, with_none, without_lent};
-ghost use Rattle.shard_turns.specs.Backups.{AddUp, IsBackupSeat, StaysSeat, visited_by, visits_in};
 
 use copy_shard::Shard;
 use std::alloc::Global;
@@ -36,6 +35,8 @@ fn slots_for(shards: u32) -> u32
 }
 
 impl<N: World> Backups<N> {
+    ghost use Rattle.shard_turns.specs.Backups.{AddUp, IsBackupSeat, StaysSeat, visited_by, visits_in};
+
     /// Empty slots for so many shards, none of them visited, and the first seat.
     ///
     /// # Errors
