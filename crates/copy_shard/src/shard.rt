@@ -165,7 +165,7 @@ impl<N: World> Shard<N> {
         }
     }
 
-    /// Takes the shard through the next window of the good first run. `steps` ticks once for each process step that its faulty machines take.
+    /// Takes the shard through the next window of the good first run. `steps` ticks at most once for each own step of its faulty machines in between.
     ///
     /// # Errors
     ///

@@ -131,8 +131,8 @@ fn advance_rest<'d, N: World, L: Ledger>(
     Ok(behind)
 }
 
-/// Takes claimed shards through the next window of the good first run side by side: the good machine's states are gone through once for all of them. `steps` ticks once for each
-/// process step that the faulty machines take.
+/// Takes claimed shards through the next window of the good first run side by side: the good machine's states are gone through once for all of them. `steps` ticks at most once
+/// for each own step of the faulty machines in between.
 ///
 /// # Errors
 ///

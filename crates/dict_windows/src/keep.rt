@@ -53,7 +53,8 @@ fn keep_in<'d, N: World, L: Ledger>(
 fn let_go<N: World>(_ahead: Ahead<'_, '_, N>) {}
 
 /// What is kept of the full grade of each fault that stands for its class, beside the good machine's samples; or the time, in steps, at which the good machine is hyperactive before
-/// a race of its own. `steps` ticks once for each process step that the good machine or a faulty one takes.
+/// a race of its own. `steps` ticks once for each process step of the good machine, and at most once for each own step of a
+/// faulty one.
 ///
 /// # Errors
 ///

@@ -132,7 +132,7 @@ fn work_in<'d, N: World, G: Gate, L: Ledger>(
 }
 
 /// Takes a worker through a round: it claims shards until none is left, where it hasn't done so yet; its shards go through the round's window, or are found behind it; and then it
-/// visits the slots for copies of other workers' shards. `steps` ticks once for each process step that the faulty machines take.
+/// visits the slots for copies of other workers' shards. `steps` ticks at most once for each own step of the faulty machines in between.
 ///
 /// # Errors
 ///

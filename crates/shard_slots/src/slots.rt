@@ -186,7 +186,7 @@ fn view_of<'w, N: World>(run: &'w RunWindow<N>) -> LockstepWindow<'w, N>
 }
 
 /// Takes the faults of a shard through a window that isn't the first one; `now` is the time, in steps, of the last slot before it. The strobes are the window's, and `log` is room
-/// for the log of a slot. `steps` ticks once for each process step of the faulty machines. The answer is the room, which may be used again.
+/// for the log of a slot. `steps` ticks at most once for each own step of the faulty machines. The answer is the room, which may be used again.
 ///
 /// # Errors
 ///

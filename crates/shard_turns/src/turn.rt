@@ -102,7 +102,7 @@ fn take_through<'d, N: World, L: Ledger>(
 }
 
 /// A shard's turn in the round of a window: it goes through the window, or the answer is the shard that was found in its place, where that is this one behind the window.
-/// Then `steps` doesn't tick; else it ticks once for each process step that the shard's faulty machines take.
+/// Then `steps` doesn't tick; else it ticks at most once for each own step of the shard's faulty machines in between.
 ///
 /// # Errors
 ///

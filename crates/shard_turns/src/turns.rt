@@ -106,7 +106,7 @@ fn take_group<'d, N: World, G: Gate, L: Ledger>(
 }
 
 /// The turns of a worker's shards in a round behind the first one, in order: each goes through the round's window, or a copy that another worker took through it is kept in its
-/// place. The gate is called before each turn. `steps` ticks once for each process step that the faulty machines take.
+/// place. The gate is called before each turn. `steps` ticks at most once for each own step of the faulty machines in between.
 ///
 /// # Errors
 ///

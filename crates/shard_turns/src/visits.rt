@@ -139,7 +139,7 @@ fn visit_slot<'d, N: World, G: Gate, L: Ledger>(
 }
 
 /// Visits slots until all were visited, by this worker or by others: the copies that haven't gone through the round's window go through it, each by the one worker that visits
-/// its slot. The gate is called before each. `steps` ticks once for each process step that their faulty machines take.
+/// its slot. The gate is called before each. `steps` ticks at most once for each own step of their faulty machines in between.
 ///
 /// # Errors
 ///

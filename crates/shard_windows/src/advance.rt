@@ -118,8 +118,8 @@ pub fn some_open(faults: &[ShardFault]) -> bool
     faults.iter().any(|own| own.end.is_none())
 }
 
-/// Takes faults through the next window of the good first run, before which they have come so far. The answer is how far they have come behind the window. `steps` ticks once for
-/// each process step that the faulty machines take.
+/// Takes faults through the next window of the good first run, before which they have come so far. The answer is how far they have come behind the window. `steps` ticks at most
+/// once for each own step of the faulty machines in between.
 ///
 /// # Errors
 ///

@@ -70,7 +70,8 @@ fn dictionary_of<N: World, L: Ledger>(
 }
 
 /// The dictionary of a design and a plan: what is kept of each listed fault's full grade; or the time, in steps, at which the good machine is hyperactive
-/// before a race of its own. `steps` ticks once for each process step that the good machine or a faulty one takes.
+/// before a race of its own. `steps` ticks once for each process step of the good machine, and at most once for each own step of a
+/// faulty one.
 ///
 /// # Errors
 ///

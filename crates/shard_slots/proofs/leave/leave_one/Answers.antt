@@ -1,5 +1,5 @@
 -- Passed, through in lockstep, or whole.
-use Rattle.std.proofs.Common.{◌≡◌, ℕ, ◌+◌, true, false, [], ◌∷◌, length, sym, ap, subst, ◌∙◌, arith}
+use Rattle.std.proofs.Common.{◌≡◌, ℕ, List, ◌+◌, true, false, [], ◌∷◌, length, sym, ap, subst, ◌∙◌, arith}
 use Rattle.std.specs.Prelude.{is_some}
 use Rattle.copy_lockstep.proofs.window_strobes.Knowing.{design-rules}
 use Rattle.v_design.specs.Plain.{fault_of}
@@ -7,6 +7,7 @@ use Rattle.copy_laws.specs.Windows.{RiseAtMostOwn}
 use Rattle.fault_strobes.specs.Said.{plan_by}
 use Rattle.copy_lockstep.specs.copy_window.ShardFaults.{kept_by}
 use Rattle.window_beside.specs.Tried.{MayTry}
+use Rattle.good_runs.specs.declared.tried.TriedStep.{TriedStep}
 use Rattle.window_faults.proofs.Steps.{stays-open, stays-same}
 use Rattle.window_faults.proofs.Within.{has-come, none-end, within-there}
 use Rattle.shard_slots.proofs.Leaving.{may-try, none-tried, rests-within, through-within, whole-within}
@@ -100,8 +101,10 @@ run_whole-requires-clause-tried g c κs within =
     let own = c.args.own.now in
     let come = c.requires.went.come (none-end own.end (sym c.is_some.ensures ∙ c.if-is_some.false)) in
     let same : c.args.slot ≡ c.args.at.now.slot = omega (arith, c.if-slot-at.false, come) in
-    subst (λ (n : ℕ). MayTry g.N.World.design (plan_by (kept_by own) g.N.World.plan) (c.args.window.now.before + n) (fault_of c.args.beside.fault) c.args.beside.one.tried.items) same
-    (may-try c.slots_take_own.ensures g.N.World.design g.N.World.plan c.args.window.now.before c.args.window.now.through c.args.slot own c.args.at.now c.args.beside c.requires.went)
+    subst (λ (tried : List TriedStep). MayTry g.N.World.design (plan_by (kept_by own) g.N.World.plan) (c.args.window.now.before + c.args.at.now.slot) (fault_of c.args.beside.fault) tried)
+    (sym c.deref.ensures.value)
+    (subst (λ (n : ℕ). MayTry g.N.World.design (plan_by (kept_by own) g.N.World.plan) (c.args.window.now.before + n) (fault_of c.args.beside.fault) c.args.beside.one.tried.items) same
+    (may-try c.slots_take_own.ensures g.N.World.design g.N.World.plan c.args.window.now.before c.args.window.now.through c.args.slot own c.args.at.now c.args.beside c.requires.went))
 
 pub run_whole-requires-clause-fault : goal.run_whole-requires-clause-fault
 run_whole-requires-clause-fault g c κs within =
@@ -126,4 +129,6 @@ returns-clause-ticks g c tally =
     whole-within c.own_steps_rise.ensures g.N.World.design g.N.World.plan (design-rules g.N.World.design c.design-design.result.now c.design-design.ensures.world) window.before window.through
     c.args.slot c.args.own.now c.args.at.now c.args.beside c.requires.went tally c.run_whole.new.own c.args.steps.now c.run_whole.new.steps c.in_ok-came.ensures.place
     (subst (λ (n : ℕ). RiseAtMostOwn g.N.World.design (plan_by (kept_by own) g.N.World.plan) (window.before + n) (window.before + (n + 1)) (fault_of c.args.beside.fault ∷ []) c.args.steps.now
-    (c.run_whole.new.steps + length c.args.beside.one.tried.items)) same c.in_ok-came.ensures.ticks)
+    (c.run_whole.new.steps + length c.args.beside.one.tried.items)) same
+    (subst (λ (tried : List TriedStep). RiseAtMostOwn g.N.World.design (plan_by (kept_by own) g.N.World.plan) (window.before + c.args.at.now.slot) (window.before + (c.args.at.now.slot + 1))
+    (fault_of c.args.beside.fault ∷ []) c.args.steps.now (c.run_whole.new.steps + length tried)) c.deref.ensures.value c.in_ok-came.ensures.ticks))
