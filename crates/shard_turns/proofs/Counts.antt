@@ -27,7 +27,7 @@ once-past x bound past = go (nat_lt x bound) refl
     go false e = refl
 
 -- the list without a number
-without : ℕ → List ℕ → List ℕ
+abbrev without : ℕ → List ℕ → List ℕ
 without n [] = []
 without n (x ∷ xs) = cond (x == n) (without n xs) (x ∷ without n xs)
 
@@ -40,7 +40,9 @@ none-without n (x ∷ xs) = go (x == n) refl (none-without n xs)
   where
     go : (b : Bool) → (x == n) ≡ b → times n (without n xs) ≡ 0 → times n (without n (x ∷ xs)) ≡ 0
     go true e rest = ap (times n) (without-by n x xs true e) ∙ rest
-    go false e rest = ap (times n) (without-by n x xs false e) ∙ (times-by x n (without n xs) false e ∙ rest)
+    go false e rest =
+        ap (times n) (without-by n x xs false e)
+        ∙ (let at : times n (x ∷ without n xs) ≡ 0 + times n (without n xs) = times-by x n (without n xs) false e in omega (arith, at, rest))
 
 others-without : (n y : ℕ) (xs : List ℕ) → (y ≡ n → ⊥) → times y (without n xs) ≡ times y xs
 others-without n y [] apart = refl
@@ -52,7 +54,8 @@ others-without n y (x ∷ xs) apart = go (x == n) refl (others-without n y xs ap
 
     go : (b : Bool) → (x == n) ≡ b → times y (without n xs) ≡ times y xs → times y (without n (x ∷ xs)) ≡ times y (x ∷ xs)
     go true e rest =
-        ap (times y) (without-by n x xs true e) ∙ (rest ∙ sym (times-by x y xs false (other (x == y) refl (eqb-true x n e))))
+        ap (times y) (without-by n x xs true e)
+        ∙ (let at : times y (x ∷ xs) ≡ 0 + times y xs = times-by x y xs false (other (x == y) refl (eqb-true x n e)) in omega (arith, at, rest))
     go false e rest =
         ap (times y) (without-by n x xs false e)
         ∙ (times-cons x y (without n xs) ∙ (ap (λ (k : ℕ). cond {A = ℕ} (x == y) 1 0 + k) rest ∙ sym (times-cons x y xs)))
@@ -60,7 +63,7 @@ others-without n y (x ∷ xs) apart = go (x == n) refl (others-without n y xs ap
 -- Sums
 
 -- a number so many times
-so-many : ℕ → ℕ → ℕ
+abbrev so-many : ℕ → ℕ → ℕ
 so-many zero n = 0
 so-many (suc k) n = n + so-many k n
 
@@ -74,18 +77,20 @@ module _ (g : ℕ → ℕ) where
       go true e rest =
           let all : sum_by g (x ∷ xs) ≡ g x + sum_by g xs = sum_by-cons g x xs in
           let here : g x ≡ g n = ap g (eqb-true x n e) in
-          let more : so-many (times n (x ∷ xs)) (g n) ≡ g n + so-many (times n xs) (g n) = ap (λ (k : ℕ). so-many k (g n)) (times-by x n xs true e) in
+          let one : times n (x ∷ xs) ≡ suc (times n xs) = (let at : times n (x ∷ xs) ≡ 1 + times n xs = times-by x n xs true e in omega (arith, at)) in
+          let more : so-many (times n (x ∷ xs)) (g n) ≡ g n + so-many (times n xs) (g n) = ap (λ (k : ℕ). so-many k (g n)) one in
           let left : sum_by g (without n (x ∷ xs)) ≡ sum_by g (without n xs) = ap (sum_by g) (without-by n x xs true e) in
           omega (arith, all, here, more, left, rest)
       go false e rest =
           let all : sum_by g (x ∷ xs) ≡ g x + sum_by g xs = sum_by-cons g x xs in
-          let more : so-many (times n (x ∷ xs)) (g n) ≡ so-many (times n xs) (g n) = ap (λ (k : ℕ). so-many k (g n)) (times-by x n xs false e) in
+          let same : times n (x ∷ xs) ≡ times n xs = (let at : times n (x ∷ xs) ≡ 0 + times n xs = times-by x n xs false e in omega (arith, at)) in
+          let more : so-many (times n (x ∷ xs)) (g n) ≡ so-many (times n xs) (g n) = ap (λ (k : ℕ). so-many k (g n)) same in
           let left : sum_by g (without n (x ∷ xs)) ≡ g x + sum_by g (without n xs) =
           ap (sum_by g) (without-by n x xs false e) ∙ sum_by-cons g x (without n xs) in
           omega (arith, all, more, left, rest)
 
   -- over all numbers below a bound
-  sum-to : ℕ → ℕ
+  abbrev sum-to : ℕ → ℕ
   sum-to zero = 0
   sum-to (suc n) = g n + sum-to n
 
@@ -138,7 +143,7 @@ module _ (f : ℕ → ℕ) (representatives : List ℕ) where
       omega (arith, rest, both)
 
   up-to : (count : ℕ) → sum-to in-shard count + from-shard count ≡ sum_by f representatives
-  up-to zero = refl
+  up-to zero = let none : sum-to in-shard zero ≡ 0 = refl in let all : from-shard zero ≡ sum_by f representatives = refl in omega (arith, none, all)
   up-to (suc count) = let one = one-shard count in let rest = up-to count in omega (arith, one, rest)
 
   all-shards : (count : ℕ) → count ≡ shard_count (length representatives) → sum-to in-shard count ≡ sum_by f representatives

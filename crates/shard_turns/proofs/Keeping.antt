@@ -1,8 +1,8 @@
 -- The shards of a worker, in order (slots by IEEE 1364-2001, clause 5).
-use Rattle.std.proofs.Common.{◌≡◌, ℕ, ◌+◌, ◌≤◌, List, [], ◌∷◌, ◌++◌, map, refl, sym, ap, subst, ◌∙◌, append_assoc, arith}
+use Rattle.std.proofs.Common.{◌≡◌, ℕ, ◌+◌, ◌<◌, ◌≤◌, List, [], ◌∷◌, ◌++◌, length, map, take, drop, get_or, refl, sym, ap, subst, ◌∙◌, append_assoc, arith}
 use Rattle.std.specs.List.{All, AllZip}
-use Rattle.std.proofs.lemmas.List.{append-nil, map-append, map_push}
-use Rattle.std.proofs.lemmas.List.Elements.{All-append, All-cons, All-head, All-nil, All-push, All-same, All-tail}
+use Rattle.std.proofs.lemmas.List.{append-nil, length-drop, map-append, take-append-drop}
+use Rattle.std.proofs.lemmas.List.Elements.{All-append, All-cons, All-drop, All-head, All-nil, All-push, All-same, All-tail, All-take}
 use Rattle.std.proofs.lemmas.List.Sums.{sum_by-append, sum_by_push}
 use Rattle.v_design.specs.Designs.{FlatDesign, TestPlan}
 use Rattle.own_gradings.specs.Numbers.{OwnStepsOf}
@@ -56,6 +56,28 @@ module _ {N : Type 0} where
 
   pub all-none : (P : ClaimedShard N → Type 0) (shards : List (ClaimedShard N)) → shards ≡ [] → All P shards
   all-none P shards none = All-same P shards [] none (All-nil P)
+
+  -- at a place
+  pub all-place : (P : ClaimedShard N → Type 0) (shards : List (ClaimedShard N)) (i : ℕ) (x : ClaimedShard N) → All P shards → i < length shards → x ≡ get_or shards i x → P x
+  all-place P shards i x all low is = subst P (sym is) (all i x low)
+
+  -- a list in two parts
+  pub parts-are : (shards first rest : List (ClaimedShard N)) (count : ℕ) → first ≡ take count shards → rest ≡ drop count shards → shards ≡ first ++ rest
+  parts-are shards first rest count front back = sym (take-append-drop count shards) ∙ (λ i. sym front i ++ sym back i)
+
+  pub all-first : (P : ClaimedShard N → Type 0) (shards first : List (ClaimedShard N)) (count : ℕ) → first ≡ take count shards → All P shards → All P first
+  all-first P shards first count front all = All-same P first (take count shards) front (All-take P count shards all)
+
+  pub all-rest : (P : ClaimedShard N → Type 0) (shards rest : List (ClaimedShard N)) (count : ℕ) → rest ≡ drop count shards → All P shards → All P rest
+  all-rest P shards rest count back all = All-same P rest (drop count shards) back (All-drop P count shards all)
+
+  pub fewer-left : (shards rest : List (ClaimedShard N)) (count : ℕ) → 0 < count → 0 < length shards → rest ≡ drop count shards → length rest < length shards
+  fewer-left shards rest count some more back = let size = ap length back ∙ length-drop count shards in omega (arith, size, some, more)
+
+  -- no shard
+  pub no-shard : (shards : List (ClaimedShard N)) → length shards ≡ 0 → shards ≡ []
+  no-shard [] none = refl
+  no-shard (x ∷ xs) none = absurd (omega (arith, none))
 
   pub numbers-both : (one other both : List (ClaimedShard N)) → both ≡ one ++ other → numbers_of both ≡ numbers_of one ++ numbers_of other
   numbers-both one other both is = ap numbers_of is ∙ map-append (λ (claimed : ClaimedShard N). claimed.number) one other

@@ -56,3 +56,35 @@ returns-in_default-2-clause-ticks g t c =
       rises = λ tally. nothing-rises g.N.World.design g.N.World.plan tally (representatives_of c.args.round.now.shards.now) c.args.round.now.window.now.before c.args.round.now.window.now.through
           c.args.workers.now.items c.pop.new.self.items (visited_by c.in-Some.all) (sum c.args.steps.now) none.0 seat.none;
     }
+
+captured_send : (g : Over) (κs : Lfts 21) → IsSend (param 0 g.row.N) → IsSync (param 0 g.row.N) → IsSync (param 2 g.row.G) → IsSend (param 3 g.row.L) →
+    IsSend (arg-14-1 g.row.N g.row.R g.row.G g.row.L g.N.laws g.R.laws g.G.laws g.L.laws g.N.World g.N.World-dict g.R.Threads g.R.Threads-dict g.G.Gate g.G.Gate-dict
+    g.L.Ledger g.L.Ledger-dict κs)
+captured_send g κs sn yn yg sl = search (arg_send, recorded_send, struct_send, shr_send, mut_send, mut_slice_send, option_send, round_sync, seated_crosses.the_send, steps_crosses.the_send, std.sync) depth 20
+
+pub join_mut-a-requires-send-F : goal.join_mut-a-requires-send-F
+join_mut-a-requires-send-F g t c κs within =
+    let may = c.requires.bounds in
+    param_send 1 _ (captured_send g κs may.0 may.1 may.3 may.4)
+
+pub split-rest-requires-clause-own : goal.split-rest-requires-clause-own
+split-rest-requires-clause-own g t c κs within =
+    (some-at (IsCrewSeat c.args.round.now.backups.now (length c.args.steps.now)) c.args.seat.now c.in-Some.all (sym c.take.ensures.value ∙ c.in-Some.is) c.requires.seat).own
+
+pub work_alone-requires-clause-at : goal.work_alone-requires-clause-at
+work_alone-requires-clause-at g t c κs within =
+    let seat : IsCrewSeat c.args.round.now.backups.now (length c.args.steps.now) c.in-Some.all =
+    some-at (IsCrewSeat c.args.round.now.backups.now (length c.args.steps.now)) c.args.seat.now c.in-Some.all (sym c.take.ensures.value ∙ c.in-Some.is) c.requires.seat in
+    let last =
+    workers-last (representatives_of c.args.round.now.shards.now) c.args.round.now.board.now c.args.round.now.window.now.before (length c.args.steps.now) c.args.workers.now.items
+    c.pop.new.self.items c.in-Some-2.worker c.requires.at c.in-Some-2.ensures.items in
+    record { at = last.2; fresh = crew-last c.args.round.now.backups.now (length c.args.steps.now) c.in-Some.all (let one = last.0 in omega (arith, one)) seat }
+
+pub split-rest-requires-clause-share : goal.split-rest-requires-clause-share
+split-rest-requires-clause-share g t c κs within =
+    let seat : IsCrewSeat c.args.round.now.backups.now (length c.args.steps.now) c.in-Some.all =
+    some-at (IsCrewSeat c.args.round.now.backups.now (length c.args.steps.now)) c.args.seat.now c.in-Some.all (sym c.take.ensures.value ∙ c.in-Some.is) c.requires.seat in
+    let last =
+    workers-last (representatives_of c.args.round.now.shards.now) c.args.round.now.board.now c.args.round.now.window.now.before (length c.args.steps.now) c.args.workers.now.items
+    c.pop.new.self.items c.in-Some-2.worker c.requires.at c.in-Some-2.ensures.items in
+    crew-enough c.args.round.now.backups.now (length c.args.steps.now) c.in-Some.all (omega (arith, last.0, c.if-count-eq0.false, c.len-count.ensures, c.pop.new.self.ok.0)) seat

@@ -3,7 +3,7 @@ use Rattle.std.proofs.Common.{◌≤◌, arith}
 use Rattle.shard_turns.proofs.turn.shard_turn.Goals as goal
 
 pub returns-in-Some-clause-behind : goal.returns-in-Some-clause-behind
-returns-in-Some-clause-behind g c = record { done = c.in-Some.ensures.done; stands = c.stands-in-Some.ensures.stands }
+returns-in-Some-clause-behind g c = record { done = c.in-Some.ensures.done; stands = c.stands.ensures.stands }
 
 pub returns-in-Some-clause-ticks : goal.returns-in-Some-clause-ticks
-returns-in-Some-clause-ticks g c tally = let most = c.found_behind-in-Some.ensures tally in omega (arith, most)
+returns-in-Some-clause-ticks g c tally = let most = c.found_behind.ensures tally in omega (arith, most)
