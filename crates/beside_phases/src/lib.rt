@@ -6,6 +6,12 @@
 
 ghost use Rattle.beside_phases.specs.Laws.{OwnStepsGoOn};
 
+pub use lockstep_block::{
+    FaultInSlot, FilterRoom, GoodMoment, LockstepCopy, LockstepRoom, WindowWakes, begin_slot,
+    follow_block, is_free, kept_ends, lanes_tell_turns, limits_tell, places_are_told,
+    run_own_block, stand_at, steps_go_on, turn_writes,
+};
+
 /// The steps that a faulty machine took itself, and its numbers of runs, from place to place of a slot.
 ///
 /// It does nothing when it runs.
@@ -20,5 +26,5 @@ pub fn own_steps_go_on()
     own_slots::tried_steps_go_on();
     phase_blocks::blocks_are_told();
     phase_order::phases_follow();
-    window_places::places_in_windows();
+    lockstep_block::places_in_windows();
 }

@@ -2,7 +2,8 @@ mod Passing
 mod Slots
 mod Taking
 mod Within
-pub use Rattle.slot_strobes.proofs.copy_pass as copy_pass
+pub use Rattle.lockstep_due.proofs.window_faults as window_faults
+pub use Rattle.lockstep_due.proofs.copy_pass as copy_pass
 pub use Rattle.lockstep_due.proofs.copy_window as copy_window
 pub use Rattle.lockstep_slot.proofs.phase_faults as phase_faults
 pub use Rattle.lockstep_slot.proofs.slot_laws as slot_laws

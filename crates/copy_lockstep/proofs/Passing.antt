@@ -25,10 +25,10 @@ use Rattle.lockstep_due.specs.lockstep_shards.Shards.{HasPassedOver, ShardsGoInL
 use Rattle.lockstep_due.proofs.lockstep_shards.Entering.{own-time}
 use Rattle.lockstep_due.proofs.lockstep_shards.Laws.{last, last-there, time-there}
 use Rattle.copy_lockstep.specs.Faults.{IsOpenAtSlot}
-use Rattle.slot_strobes.specs.Counts.{AllBetween, CountsBy}
-use Rattle.slot_strobes.specs.Strobes.{IsGradingBehind}
-use Rattle.slot_strobes.proofs.Lists.{at-drop, at-take, drop-between, holds-from}
-use Rattle.slot_strobes.proofs.Counted.{passed-behind}
+use Rattle.lockstep_due.specs.slot_strobes.Counts.{AllBetween, CountsBy}
+use Rattle.lockstep_due.specs.slot_strobes.Strobes.{IsGradingBehind}
+use Rattle.lockstep_due.proofs.slot_strobes.Lists.{at-drop, at-take, drop-between, holds-from}
+use Rattle.lockstep_due.proofs.slot_strobes.Counted.{passed-behind}
 use Rattle.copy_lockstep.proofs.Within.{by-codes}
 
 -- strobes that see nothing of a copy

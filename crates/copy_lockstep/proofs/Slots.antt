@@ -23,12 +23,12 @@ use Rattle.lockstep_due.specs.copy_window.declared.fault.ShardFault.{ShardFault}
 use Rattle.lockstep_due.specs.lockstep_shards.Shards.{AreDueAlike, ShardsGoInLockstep}
 use Rattle.lockstep_due.proofs.lockstep_shards.Laws.{fine-there, last, last-there, next-later, some-is, stops-earlier, stops-later, time-is, time-there}
 use Rattle.lockstep_slot.specs.slot_laws.Copies.{MayBeginSlot, lockstep_differences}
-use Rattle.slot_strobes.specs.Counts.{CountsBy}
-use Rattle.slot_strobes.specs.Strobes.{ComeBefore, IsFoundAt, IsGradingBehind, StandsBeforeSlot}
+use Rattle.lockstep_due.specs.slot_strobes.Counts.{CountsBy}
+use Rattle.lockstep_due.specs.slot_strobes.Strobes.{ComeBefore, IsFoundAt, IsGradingBehind, StandsBeforeSlot}
 use Rattle.copy_lockstep.specs.Entered.{EntersSlot, HasEnded}
 use Rattle.copy_lockstep.specs.Faults.{IsOpenAtSlot, MayTry, StandsAtSlot}
-use Rattle.slot_strobes.proofs.Lists.{at-drop, at-take}
-use Rattle.slot_strobes.proofs.Counted.{passed-behind}
+use Rattle.lockstep_due.proofs.slot_strobes.Lists.{at-drop, at-take}
+use Rattle.lockstep_due.proofs.slot_strobes.Counted.{passed-behind}
 use Rattle.copy_lockstep.proofs.Within.{differences-are}
 
 -- a fault of a shard of which nothing was found stands open where more slots come

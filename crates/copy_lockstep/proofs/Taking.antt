@@ -32,7 +32,7 @@ use Rattle.lockstep_due.specs.window_strobes.Neighbours.{time-between, time-by}
 use Rattle.lockstep_due.specs.machine.Standing.{BeginsInFirstRun, StandsBetween, slot_after}
 use Rattle.lockstep_due.specs.copy_window.Copies.{differences_in}
 use Rattle.lockstep_due.specs.copy_window.ShardFaults.{kept_by, said_by}
-use Rattle.window_beside.specs.Tried.{WasTried}
+use Rattle.lockstep_due.specs.window_beside.Tried.{WasTried}
 use Rattle.lockstep_due.specs.copy_window.declared.fault.ShardFault.{ShardFault}
 use Rattle.lockstep_slot.specs.lockstep_block.Blocks.{TriedInSlot}
 use Rattle.lockstep_slot.specs.slot_laws.Copies.{MayBeginSlot, lockstep_differences}
@@ -41,8 +41,8 @@ use Rattle.fault_strobes.specs.Said.{Judging, ending_strobes, plan_by}
 use Rattle.fault_strobes.proofs.Ends.{ending-hold}
 use Rattle.fault_strobes.proofs.Strobes.{as-graded, grader_for}
 use Rattle.lockstep_due.specs.lockstep_shards.Shards.{ShardsGoInLockstep}
-use Rattle.slot_strobes.specs.Strobes.{ComeBefore}
-use Rattle.slot_strobes.proofs.Lists.{holds-drop}
+use Rattle.lockstep_due.specs.slot_strobes.Strobes.{ComeBefore}
+use Rattle.lockstep_due.proofs.slot_strobes.Lists.{holds-drop}
 use Rattle.copy_lockstep.specs.Entered.{EntersSlot}
 use Rattle.copy_lockstep.specs.Steps.{SlotsTakeOwn}
 

@@ -7,7 +7,7 @@ use Rattle.fault_strobes.specs.Said.{Judging}
 use Rattle.lockstep_due.specs.copy_window.ShardFaults.{IsShardFault, kept_by}
 use Rattle.lockstep_due.specs.copy_window.declared.fault.ShardFault.{ShardFault}
 use Rattle.lockstep_slot.specs.Beside.{BeginsSlot}
-use Rattle.slot_strobes.specs.Strobes.{ComeBefore, IsGradingBehind}
+use Rattle.lockstep_due.specs.slot_strobes.Strobes.{ComeBefore, IsGradingBehind}
 use Rattle.copy_lockstep.specs.Faults.{IsOpenAtSlot, MayTry}
 use Rattle.copy_lockstep.specs.declared.entered.Entered.{Entered}
 use Rattle.copy_lockstep.specs.declared.entered.Entered.TheVariants as becomes

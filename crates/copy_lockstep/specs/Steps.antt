@@ -6,7 +6,7 @@ use Rattle.copy_state.specs.Kept.{CopyKept}
 use Rattle.fault_strobes.specs.Said.{plan_by}
 use Rattle.good_runs.specs.declared.tried.TriedStep.{TriedStep}
 use Rattle.lockstep_due.specs.copy_window.ShardFaults.{kept_by}
-use Rattle.window_beside.specs.Tried.{WasTried}
+use Rattle.lockstep_due.specs.window_beside.Tried.{WasTried}
 use Rattle.lockstep_due.specs.copy_window.declared.fault.ShardFault.{ShardFault}
 use Rattle.lockstep_due.specs.lockstep_copies.Copies.{own_begins}
 use Rattle.lockstep_slot.specs.lockstep_block.Blocks.{TriedInSlot}

@@ -9,16 +9,15 @@ ghost use Rattle.lockstep_due.specs.lockstep_copies.Copies.{IsCopyInLockstep};
 ghost use Rattle.lockstep_due.specs.copy_window.Copies.{differences_in};
 ghost use Rattle.lockstep_due.specs.copy_window.ShardFaults.{SameFault, kept_by, said_by};
 ghost use Rattle.lockstep_slot.specs.slot_laws.Copies.{lockstep_differences};
-ghost use Rattle.slot_strobes.specs.Strobes.{ComeBefore, IsGradingBehind};
+ghost use Rattle.lockstep_due.specs.slot_strobes.Strobes.{ComeBefore, IsGradingBehind};
 ghost use Rattle.copy_lockstep.specs.Faults.{StandsAtSlot};
 ghost use Rattle.copy_lockstep.specs.Entered.{EntersSlot};
 
 use crate::reached::Reached;
 use fault_strobes::Strobed;
 use good_trace::{Setup, TraceWindow};
-use lockstep_due::{ShardFault, shards_go_in_lockstep};
+use lockstep_due::{ShardFault, see_to, shards_go_in_lockstep};
 use lockstep_slot::FaultInSlot;
-use slot_strobes::see_to;
 use std::alloc::Global;
 use v_design::{Fault, World};
 use vf_base::{End, NoMemory};

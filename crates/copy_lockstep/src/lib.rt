@@ -22,8 +22,8 @@ pub use behind::leave_slot;
 pub use entered::{Entered, Entering};
 pub use last::end_of_lockstep;
 pub use lockstep_due::{
-    Machine, ShardFault, WindowStrobes, begin_fault, empty_log, new_fault, new_room,
-    searches_begin, strobes_of,
+    FaultAt, Machine, ShardFault, WindowStrobes, begin_each, begin_fault, comes_to, empty_log,
+    listed_fault, new_fault, new_room, run_whole, searches_begin, strobes_of,
 };
 pub use lockstep_slot::{
     FaultBeside, FaultInSlot, LockstepRoom, LockstepWindow, NextTouches, all_through_slot, rests,

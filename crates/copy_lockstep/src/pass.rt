@@ -8,8 +8,9 @@ ghost use Rattle.copy_lockstep.specs.Faults.{IsOpenAtSlot};
 
 use crate::reached::Reached;
 use good_trace::{Setup, TraceWindow};
-use lockstep_due::{ShardFault, next_touched, searches_begin, shards_go_in_lockstep};
-use slot_strobes::{is_unseen, strobes_by};
+use lockstep_due::{
+    ShardFault, is_unseen, next_touched, searches_begin, shards_go_in_lockstep, strobes_by,
+};
 use v_design::{Fault, World};
 
 /// Copies with more values than this aren't searched for: so many searches would cost more than to try a slot.

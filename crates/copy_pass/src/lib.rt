@@ -10,5 +10,11 @@ mod alone;
 mod pass;
 mod seen;
 
+pub use copy_skip::{next_touched, searches_begin};
+pub use copy_window::{
+    ShardFault, WindowStrobes, begin_fault, empty_log, good_bits, new_fault, new_room,
+    resume_fault, runs_take_steps, strobes_after, strobes_of,
+};
 pub use pass::pass_over;
+pub use run_stands::{Machine, states_stand};
 pub use seen::{is_unseen, keeps_value};

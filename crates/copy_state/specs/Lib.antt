@@ -1,6 +1,7 @@
 pub mod Entries
 pub mod EntryLaws
 pub mod Listed
+pub mod ListedLaws
 pub mod Tables
 pub mod Held
 pub mod Kept

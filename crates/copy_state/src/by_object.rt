@@ -1,12 +1,13 @@
 // The own values of a copy.
 
-ghost use Rattle.std.specs.Prelude.{◌≡◌, [], Some, length, option_map, IfSome, OnOk, OnErr, IfOk};
+ghost use Rattle.std.specs.Prelude.{◌≡◌, [], Some, length, map, option_map, IfSome, OnOk, OnErr, IfOk};
 ghost use Rattle.vf_base.specs.Base.{object_number};
 ghost use Rattle.v_design.specs.States.{found_or};
 ghost use Rattle.copy_laws.specs.Differences.{own_of, Ascend};
 ghost use Rattle.copy_state.specs.Entries.{with_entry, without_entry, first_from};
+ghost use Rattle.copy_state.specs.Listed.{entry_of};
 
-use crate::entry::HeldValue;
+use crate::entry::{Entry, HeldValue};
 use crate::few_values::FewValues;
 use crate::value_table::ValueTable;
 use four_value::Vec4;
@@ -15,7 +16,7 @@ use std::marker::Model;
 use vf_base::NoMemory;
 
 /// How many values stand in a list before they go into a table.
-const MOST_LISTED: usize = 256;
+const MOST_LISTED: usize = 1024;
 
 /// A list of values, or a table of them by object.
 #[derive(Drop)]
@@ -116,6 +117,16 @@ impl ByObject {
         match &self.held {
             HeldValues::Few(few) => few.next_held(from, hint),
             HeldValues::Many(table) => table.next_held(from),
+        }
+    }
+
+    /// All values in ascending order, where they are held as a list.
+    pub(crate) fn listed(&self) -> Option<&[Entry<Vec4>]>
+        ensures { IfSome result (λ listed. map entry_of listed.now ≡ self.now) }
+    {
+        match &self.held {
+            HeldValues::Few(few) => Some(few.listed()),
+            HeldValues::Many(_) => None,
         }
     }
 

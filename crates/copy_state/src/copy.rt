@@ -7,11 +7,12 @@ ghost use Rattle.v_design.specs.States.{found_or};
 ghost use Rattle.copy_laws.specs.Differences.{own_of, Ascend};
 ghost use Rattle.copy_state.specs.Copied.{KeepsSame};
 ghost use Rattle.copy_state.specs.Entries.{with_entry, without_entry, first_from};
+ghost use Rattle.copy_state.specs.Listed.{entry_of};
 ghost use Rattle.copy_state.specs.Kept.{nothing_kept, with_own_value, StandsIn};
 
 use crate::by_object::ByObject;
 use crate::by_process::{ByProcess, copied_states, copied_updates};
-use crate::entry::HeldValue;
+use crate::entry::{Entry, HeldValue};
 use four_value::Vec4;
 use process_code::ProcState;
 use std::alloc::Global;
@@ -98,6 +99,13 @@ impl FaultCopy {
         ensures value { IfSome result (λ held. own_of self.now.values (object_number held.object) ≡ Some held.value) }
     {
         self.values.next_held(from.0, hint)
+    }
+
+    /// All own values, each with its object's number, in ascending order: where they are held as a list. Many are held as a table, which isn't one.
+    pub fn listed(&self) -> Option<&[Entry<Vec4>]>
+        ensures { IfSome result (λ listed. map entry_of listed.now ≡ self.now.values) }
+    {
+        self.values.listed()
     }
 
     /// How many objects differ.

@@ -7,9 +7,9 @@ use vf_base::ObjectId;
 
 /// What is kept under a number: that of an object or of a process.
 #[derive(Clone, Copy, Debug, Drop)]
-pub(crate) struct Entry<T> {
-    pub(crate) number: u32,
-    pub(crate) kept: T,
+pub struct Entry<T> {
+    pub number: u32,
+    pub kept: T,
 }
 
 /// An object's own value that was found, and a hint where the next one stands.

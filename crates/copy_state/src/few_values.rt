@@ -5,6 +5,7 @@ ghost use Rattle.vf_base.specs.Base.{object_number};
 ghost use Rattle.v_design.specs.States.{found_or};
 ghost use Rattle.copy_laws.specs.Differences.{own_of, Ascend};
 ghost use Rattle.copy_state.specs.Entries.{with_entry, without_entry, first_from};
+ghost use Rattle.copy_state.specs.Listed.{entry_of};
 
 use crate::entry::{Entry, HeldValue};
 use crate::find::{count_before, count_near, find};
@@ -114,6 +115,13 @@ impl FewValues {
             });
         }
         None
+    }
+
+    /// All values in ascending order.
+    pub(crate) fn listed(&self) -> &[Entry<Vec4>]
+        ensures { map entry_of result.now ≡ self.now }
+    {
+        self.values.as_slice()
     }
 
     /// How many objects have a value.

@@ -17,6 +17,6 @@ pub use begin::begin_fault;
 pub use fault::{ShardFault, new_fault};
 pub use fault_grade::empty_log;
 pub use grade::end_behind;
-pub use graded_steps::{gradings_take_steps, runs_take_steps};
+pub use graded_steps::runs_take_steps;
 pub use resume::{new_room, resume_fault};
 pub use window_strobes::{WindowStrobes, good_bits, strobes_after, strobes_of};

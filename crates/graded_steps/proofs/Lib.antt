@@ -1,4 +1,3 @@
 mod Parted
 mod Standing
-mod Ending
 mod Between

@@ -13,7 +13,7 @@ use Rattle.between_slots.specs.Between.{window_phases}
 use Rattle.good_trace.specs.SlotsTold.{slot_run_ends}
 use Rattle.window_runs.specs.RunsByProcess.{run_process}
 use Rattle.boundary_ends.proofs.Counts.{enders-append}
-use Rattle.shown_blocks.proofs.Passed.{enders-there}
+use Rattle.good_moment.proofs.shown_blocks.Passed.{enders-there}
 use Rattle.good_moment.specs.moment_laws.Places.{IsInWindow, IsShownAt}
 use Rattle.good_moment.specs.moment_laws.Steps.{slot_enders}
 use Rattle.good_moment.specs.moment_laws.Shown.{MomentKept}

@@ -16,6 +16,5 @@ pub use Rattle.good_moment.specs.lockstep_places as lockstep_places
 pub use Rattle.lockstep_steps.specs.window_places as window_places
 pub use Rattle.lockstep_steps.specs.lockstep_copies as lockstep_copies
 pub use Rattle.lockstep_steps.specs.lockstep_slots as lockstep_slots
-pub use Rattle.slot_steps.specs as slot_steps
 pub use Rattle.faulty_block.specs.block_events as block_events
 pub use Rattle.good_moment.specs.window_wakes as window_wakes

@@ -19,7 +19,7 @@ pub use faulty_block::{LockstepCopy, begin_slot, kept_ends, lanes_tell_turns, tu
 pub use good_moment::{GoodMoment, WindowWakes, limits_tell, places_are_told};
 pub use good_runs::TriedStep;
 pub use lockstep_filter::{FilterRoom, is_free};
-pub use lockstep_steps::steps_go_on;
+pub use lockstep_steps::{places_in_windows, steps_go_on};
 pub use own::run_own_block;
 pub use pass::{follow_block, stand_at};
 pub use room::{FaultInSlot, LockstepRoom};

@@ -8,8 +8,8 @@ use Rattle.v_design.specs.Designs.{FlatDesign, TestPlan}
 use Rattle.v_design.specs.States.{LaterUpdate}
 use Rattle.copy_laws.specs.Differences.{Ascend, own_of}
 use Rattle.copy_state.specs.Entries.{first_from}
-use Rattle.copy_skip.specs.Entries.{next-kept, none-from}
-use Rattle.lockstep_shards.proofs.Keeping.{none-found}
+use Rattle.window_faults.specs.copy_skip.Entries.{next-kept, none-from}
+use Rattle.window_faults.proofs.lockstep_shards.Keeping.{none-found}
 use Rattle.lockstep_due.specs.Due.{IsDueAlike}
 
 -- where there is no entry from the first one on there is none

@@ -6,7 +6,7 @@ ghost use Rattle.v_design.specs.Plain.{due_of};
 ghost use Rattle.lockstep_laws.specs.Lockstep.{due_times};
 ghost use Rattle.block_skip.specs.Blocks.{AreProcesses};
 ghost use Rattle.lockstep_due.specs.Due.{IsDueAlike};
-ghost use Rattle.lockstep_shards.specs.Shards.{AreDueAlike};
+ghost use Rattle.window_faults.specs.lockstep_shards.Shards.{AreDueAlike};
 
 use copy_state::FaultCopy;
 use good_trace::{Setup, TraceWindow};

@@ -7,9 +7,10 @@
 
 mod due;
 
-pub use copy_skip::{next_touched, searches_begin};
 pub use due::may_go;
-pub use lockstep_shards::{
-    Machine, ShardFault, WindowStrobes, begin_fault, copies_go_in_lockstep, empty_log,
-    gradings_take_steps, new_fault, new_room, runs_take_steps, shards_go_in_lockstep, strobes_of,
+pub use window_faults::{
+    FaultAt, Judged, Machine, ShardFault, WindowStrobes, begin_each, begin_fault, comes_to,
+    copies_go_in_lockstep, empty_log, is_unseen, judge_to, listed_fault, new_fault, new_room,
+    next_touched, run_whole, runs_take_steps, searches_begin, see_to, shards_go_in_lockstep,
+    strobes_by, strobes_of,
 };

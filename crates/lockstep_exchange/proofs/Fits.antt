@@ -8,9 +8,9 @@ use Rattle.std.proofs.lemmas.Option.{slice_get_past}
 use Rattle.four_value.specs.Values.{LogicValue}
 use Rattle.vf_base.specs.Lists.{AllHold}
 use Rattle.v_design.specs.Assignments.{value_at}
-use Rattle.v_design.specs.Designs.{FlatDesign, width_in}
+use Rattle.v_design.specs.Designs.{FlatDesign}
 use Rattle.v_design.specs.Plain.{update_of}
-use Rattle.v_design.specs.States.{State, ProcessState, LaterUpdate, process_at, found_or, idle_process}
+use Rattle.v_design.specs.States.{State, LaterUpdate, process_at, found_or, idle_process}
 use Rattle.copy_laws.specs.Differences.{own_of}
 use Rattle.lockstep_laws.specs.Lockstep.{due_times}
 use Rattle.lockstep_index.specs.Writes.{OwnWrites, with_writes}
@@ -104,12 +104,12 @@ kept-fits design own good of none = record {
   };
 }
 
-unfoldable pub shown-fits : (design : FlatDesign) (shows : State → Type 0) (own : LockstepCopy) (now : State) → MayTakeOut design shows own now → ShownFits design shows now own
+unfoldable pub shown-fits : (design : FlatDesign) (shows : State → Type 0) (own : LockstepCopy) (now : State) → MayTakeOut design shows own now → ShownFits design shows now own.copy.values
 shown-fits design shows own now of = record {
   good = of.good;
   shown = of.shown;
   value_count = sym of.but_for.value_count;
-  values = λ object value is.
+  each = λ object value is.
       let low = of.but_for.objects_there object value is in
       record { there = omega (arith, low, of.but_for.value_count); width = of.wide object low };
 }

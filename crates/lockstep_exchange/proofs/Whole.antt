@@ -120,7 +120,7 @@ put-in one design own acted lane good middle some new of first second third =
 
 -- and taken out
 
-restored-value : (own : LockstepCopy) (good now : State) → IsButFor own good now → (object : ℕ) → found_or (value_at now.values object) (values_restored own good object) ≡ value_at good.values object
+restored-value : (own : LockstepCopy) (good now : State) → IsButFor own good now → (object : ℕ) → found_or (value_at now.values object) (values_restored own.copy.values good object) ≡ value_at good.values object
 restored-value own good now is object = go (own_of own.copy.values object) refl
   where
     go : (found : Option LogicValue) → own_of own.copy.values object ≡ found →
@@ -129,7 +129,7 @@ restored-value own good now is object = go (own_of own.copy.values object) refl
     go (Some value) e = ap (λ (o : Option LogicValue). found_or (value_at now.values object) (option_map (λ (kept : LogicValue). value_at good.values object) o)) e
 
 pub taken-out : WithinIsOne → (design : FlatDesign) (shows : State → Type 0) (own : LockstepCopy) (now new : State) (of : MayTakeOut design shows own now) →
-    ValuesArePut (values_restored own of.good) now new → new ≡ of.good
+    ValuesArePut (values_restored own.copy.values of.good) now new → new ≡ of.good
 taken-out one design shows own now new of put =
     one same_within of.good new of.good
     (record {

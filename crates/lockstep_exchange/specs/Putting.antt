@@ -43,9 +43,9 @@ abbrev pub lane_numbers : Option ProcId → List ℕ
 lane_numbers None = []
 lane_numbers (Some process) = process_number process ∷ []
 
--- the objects of which a value is kept as a state has them
-abbrev pub values_restored : LockstepCopy → State → ℕ → Option LogicValue
-values_restored own state object = option_map (λ (kept : LogicValue). value_at state.values object) (own_of own.copy.values object)
+-- the objects of some values as a state has them
+abbrev pub values_restored : List (ℕ × LogicValue) → State → ℕ → Option LogicValue
+values_restored values state object = option_map (λ (kept : LogicValue). value_at state.values object) (own_of values object)
 
 -- What may be put
 
@@ -54,6 +54,10 @@ pub record FitsObject (design : FlatDesign) (state : State) (object : ℕ) (valu
   pub there : object < length state.values
   pub width : length value ≡ width_in design object
 
+-- so does each of some values
+abbrev pub ValuesFit : FlatDesign → State → List (ℕ × LogicValue) → Type 0
+ValuesFit design state values = (object : ℕ) (value : LogicValue) → own_of values object ≡ Some value → FitsObject design state object value
+
 -- updates for a process of a state, none of them due before its time
 pub record FitsProcess (state : State) (process : ℕ) (later : List LaterUpdate) : Type 0 where
   pub there : process < length state.processes
@@ -61,12 +65,12 @@ pub record FitsProcess (state : State) (process : ℕ) (later : List LaterUpdate
 
 -- what is kept fits a state
 pub record KeptFits (design : FlatDesign) (state : State) (own : LockstepCopy) : Type 0 where
-  pub values : (object : ℕ) (value : LogicValue) → own_of own.copy.values object ≡ Some value → FitsObject design state object value
+  pub values : ValuesFit design state own.copy.values
   pub updates : (process : ℕ) (later : List LaterUpdate) → own_of own.copy.updates process ≡ Some later → FitsProcess state process later
 
--- in place of the values that are kept those of a state that is shown fit another one
-pub record ShownFits (design : FlatDesign) (shows : State → Type 0) (now : State) (own : LockstepCopy) : Type 0 where
+-- in place of some values those of a state that is shown fit another one
+pub record ShownFits (design : FlatDesign) (shows : State → Type 0) (now : State) (values : List (ℕ × LogicValue)) : Type 0 where
   pub good : State
   pub shown : shows good
   pub value_count : length good.values ≡ length now.values
-  pub values : (object : ℕ) (value : LogicValue) → own_of own.copy.values object ≡ Some value → FitsObject design now object (value_at good.values object)
+  pub each : (object : ℕ) (value : LogicValue) → own_of values object ≡ Some value → FitsObject design now object (value_at good.values object)

@@ -5,21 +5,38 @@ ghost use Rattle.vf_base.specs.Base.{process_number};
 ghost use Rattle.vf_base.specs.Lists.{change_at, has};
 ghost use Rattle.v_design.specs.Plain.{fault_of, update_of};
 ghost use Rattle.v_design.specs.States.{found_or};
-ghost use Rattle.copy_laws.specs.Differences.{own_of};
+ghost use Rattle.copy_laws.specs.Differences.{own_of, Ascend};
+ghost use Rattle.copy_state.specs.Listed.{entry_of};
 ghost use Rattle.lockstep_index.specs.Writes.{with_writes};
 ghost use Rattle.lockstep_copy.specs.lockstep_slots.Kept.{kept_within};
 ghost use Rattle.lockstep_copy.specs.Kept.{kept_by};
 ghost use Rattle.block_events.specs.Runners.{IsWhole, machine_of, state_of};
-ghost use Rattle.lockstep_exchange.specs.Putting.{KeptFits, ValuesArePut, WritesArePut, found_among, lane_numbers};
+ghost use Rattle.lockstep_exchange.specs.Putting.{KeptFits, ValuesArePut, ValuesFit, WritesArePut, found_among, lane_numbers};
 ghost use Rattle.lockstep_exchange.specs.Exchange.{ArePutFor, MayPutIn, acts_among};
 
 use block_events::Runner;
+use copy_state::Entry;
+use four_value::Vec4;
 use lockstep_copy::LockstepCopy;
 use v_design::{Fault, Update};
 use vf_base::{NoMemory, ObjectId, ProcId};
 
-/// Each object of which a value is kept comes to hold it.
-fn put_values(runner: &mut Runner, own: &LockstepCopy)
+/// Each object of which a value is listed comes to hold it.
+fn put_listed(runner: &mut Runner, listed: &[Entry<Vec4>])
+    requires whole { IsWhole runner.old }
+    requires fits { ValuesFit (machine_of runner.old).design (state_of runner.old) (map entry_of listed.now) }
+    requires ascend { Ascend (map entry_of listed.now) }
+    ensures machine { machine_of runner.new ≡ machine_of runner.old }
+    ensures state { ValuesArePut (own_of (map entry_of listed.now)) (state_of runner.old) (state_of runner.new) }
+    ensures whole { IsWhole runner.new }
+{
+    'objects: for own in listed {
+        runner.put_value(ObjectId(own.number), own.kept);
+    }
+}
+
+/// Each object of which a value is kept comes to hold it, as one after the other is found.
+fn put_found(runner: &mut Runner, own: &LockstepCopy)
     requires whole { IsWhole runner.old }
     requires fits { KeptFits (machine_of runner.old).design (state_of runner.old) own.now }
     ensures machine { machine_of runner.new ≡ machine_of runner.old }
@@ -31,6 +48,21 @@ fn put_values(runner: &mut Runner, own: &LockstepCopy)
     'objects: while let Some(held) = next {
         runner.put_value(held.object, held.value);
         next = own.copy.next_held(ObjectId(held.object.0 + 1), held.hint);
+    }
+}
+
+/// Each object of which a value is kept comes to hold it.
+fn put_values(runner: &mut Runner, own: &LockstepCopy)
+    requires whole { IsWhole runner.old }
+    requires fits { KeptFits (machine_of runner.old).design (state_of runner.old) own.now }
+    ensures machine { machine_of runner.new ≡ machine_of runner.old }
+    ensures state { ValuesArePut (kept_within (kept_by own.now) (state_of runner.old)).values (state_of runner.old) (state_of runner.new) }
+    ensures whole { IsWhole runner.new }
+{
+    own.copy.ascending();
+    match own.copy.listed() {
+        Some(listed) => put_listed(runner, listed),
+        None => put_found(runner, own),
     }
 }
 

@@ -1,5 +1,6 @@
 pub use Rattle.lockstep_turn.proofs.phase_faults as phase_faults
 pub use Rattle.lockstep_turn.proofs.slot_laws as slot_laws
+pub use Rattle.lockstep_turn.proofs.beside_phases as beside_phases
 pub use Rattle.lockstep_turn.proofs.lockstep_block as lockstep_block
 pub use Rattle.lockstep_turn.proofs.lockstep_room as lockstep_room
 pub use Rattle.lockstep_turn.proofs.copy_skip as copy_skip

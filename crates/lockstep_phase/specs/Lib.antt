@@ -1,6 +1,7 @@
 pub use Rattle.lockstep_turn.specs as lockstep_turn
 pub use Rattle.lockstep_turn.specs.phase_faults as phase_faults
 pub use Rattle.lockstep_turn.specs.slot_laws as slot_laws
+pub use Rattle.lockstep_turn.specs.beside_phases as beside_phases
 pub use Rattle.lockstep_turn.specs.lockstep_block as lockstep_block
 pub use Rattle.lockstep_turn.specs.lockstep_room as lockstep_room
 pub use Rattle.lockstep_turn.specs.copy_skip as copy_skip
@@ -11,9 +12,4 @@ pub use Rattle.lockstep_turn.specs.next_touches as next_touches
 pub use Rattle.lockstep_turn.specs.window_places as window_places
 pub use Rattle.lockstep_turn.specs.lockstep_copies as lockstep_copies
 pub use Rattle.lockstep_turn.specs.lockstep_slots as lockstep_slots
-pub use Rattle.lockstep_turn.specs.slot_steps as slot_steps
 pub use Rattle.lockstep_turn.specs.block_events as block_events
-pub use Rattle.lockstep_turn.specs.beside_phases as beside_phases
-pub use Rattle.lockstep_turn.specs.own_slots as own_slots
-pub use Rattle.lockstep_turn.specs.good_runs as good_runs
-pub use Rattle.lockstep_turn.specs.run_numbers as run_numbers

@@ -1,20 +1,20 @@
 // A phase in lockstep.
 
-ghost use Rattle.std.specs.Prelude.{◌≡◌, ◌<◌, ◌≤◌, ℕ, length, OnOk, sum_by};
+ghost use Rattle.std.specs.Prelude.{◌≡◌, ◌<◌, ◌≤◌, ℕ, length, map, OnOk, sum_by};
 ghost use Rattle.std.specs.List.{AllZip};
 ghost use Rattle.vf_base.specs.Lists.{AllHold};
 ghost use Rattle.lockstep_turn.specs.lockstep_room.Rooms.{AreCounts};
-ghost use Rattle.lockstep_turn.specs.slot_steps.Rises.{RisesWithin};
+ghost use Rattle.slot_steps.specs.Rises.{RisesWithin};
 ghost use Rattle.lockstep_turn.specs.lockstep_slots.Places.{Place};
 ghost use Rattle.lockstep_turn.specs.slot_laws.Slots.{AreOfOneWindow, IsRoomIn, further};
-ghost use Rattle.lockstep_turn.specs.phase_faults.Beside.{ComesThroughPhase, FaultsMayGo, HasSite, HaveGoneOn, IsRoomSomewhere, MayGoOnIf, ticked_of};
+ghost use Rattle.lockstep_turn.specs.phase_faults.Beside.{ComesThroughPhase, FaultsMayGo, HasSite, HaveGoneOn, IsRoomSomewhere, MayGoOnIf, stop_of, ticked_of};
 
 use crate::filter::ask_all;
 use crate::own::take_block;
 use crate::pass::pass_until;
 use good_trace::Setup;
 use lockstep_turn::{
-    FaultBeside, LockstepRoom, LockstepWindow, NextTouches, least_until, look_ahead_all,
+    FaultBeside, LockstepRoom, LockstepWindow, NextTouches, least_stop, look_ahead_all, stops_of,
 };
 use std::alloc::Global;
 use std::sync::ledger::Ledger;
@@ -34,6 +34,7 @@ fn go_further<N: World, L: Ledger>(
     touches: &mut NextTouches<N>,
     time: u64,
     faults: &mut Vec<FaultBeside>,
+    stops: &mut Vec<u32>,
     end: u32,
     steps: &mut Steps<L>,
 ) -> Result<(), NoMemory>
@@ -41,9 +42,11 @@ fn go_further<N: World, L: Ledger>(
     requires may { FaultsMayGo N.design N.plan view.now.window.now.before view.now.window.now.through time view.now.blocks.now.moments end room.old.runner room.old.before room.old.behind
         room.old.counts faults.old.items }
     requires more { room.old.before.moment < end }
+    requires stops { stops.old.items ≡ map (stop_of end) faults.old.items }
     ensures on { OnOk result (HaveGoneOn N.design N.plan view.now.window.now.before view.now.window.now.through view.now.blocks.now.moments end room.old.runner room.old.before
         room.old.behind room.old.counts faults.old.items room.new.runner room.new.before room.new.behind room.new.counts faults.new.items) }
     ensures more { OnOk result (room.old.before.moment < room.new.before.moment) }
+    ensures stops { OnOk result (stops.new.items ≡ map (stop_of end) faults.new.items) }
     ensures ticks { OnOk result (RisesWithin (sum_by ticked_of faults.old.items) (sum_by ticked_of faults.new.items) steps.old steps.new) }
 {
     lockstep_turn::limits_tell();
@@ -53,10 +56,12 @@ fn go_further<N: World, L: Ledger>(
     phase_blocks::blocks_are_told();
     phase_order::phases_follow();
     view.blocks.stands();
-    let least = least_until(faults, end);
+    let least = least_stop(stops, end);
     pass_until(setup, view, room, least)?;
     if least < end {
-        take_block(alloc, setup, view, room, touches, time, faults, end, steps)?;
+        take_block(
+            alloc, setup, view, room, touches, time, faults, stops, end, steps,
+        )?;
         return Ok(());
     }
     Ok(())
@@ -75,19 +80,23 @@ fn go_to_end<N: World, L: Ledger>(
     touches: &mut NextTouches<N>,
     time: u64,
     faults: &mut Vec<FaultBeside>,
+    stops: &mut Vec<u32>,
     end: u32,
     steps: &mut Steps<L>,
 ) -> Result<(), NoMemory>
     requires window { AreOfOneWindow view.now.window.now view.now.blocks.now view.now.wakes.now }
     requires may { FaultsMayGo N.design N.plan view.now.window.now.before view.now.window.now.through time view.now.blocks.now.moments end room.old.runner room.old.before room.old.behind
         room.old.counts faults.old.items }
+    requires stops { stops.old.items ≡ map (stop_of end) faults.old.items }
     ensures on { OnOk result (HaveGoneOn N.design N.plan view.now.window.now.before view.now.window.now.through view.now.blocks.now.moments end room.old.runner room.old.before
         room.old.behind room.old.counts faults.old.items room.new.runner room.new.before room.new.behind room.new.counts faults.new.items) }
     ensures past { OnOk result (end ≤ room.new.before.moment) }
     ensures ticks { OnOk result (RisesWithin (sum_by ticked_of faults.old.items) (sum_by ticked_of faults.new.items) steps.old steps.new) }
 {
     'moments: while room.before.moment() < end {
-        go_further(alloc, setup, view, room, touches, time, faults, end, steps)?;
+        go_further(
+            alloc, setup, view, room, touches, time, faults, stops, end, steps,
+        )?;
     }
     Ok(())
 }
@@ -132,7 +141,10 @@ pub fn all_through_phase<N: World, L: Ledger>(
     let ends = view.blocks.phase_ends();
     let end = ends[phase as usize];
     look_ahead_all(setup, view, touches, faults, moment, end);
-    go_to_end(alloc, setup, view, room, touches, time, faults, end, steps)?;
+    let mut stops = stops_of(alloc, faults, end)?;
+    go_to_end(
+        alloc, setup, view, room, touches, time, faults, &mut stops, end, steps,
+    )?;
     ask_all(setup, view, &mut room.filter, faults, slot, end);
     Ok(())
 }

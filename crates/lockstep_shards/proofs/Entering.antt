@@ -17,9 +17,9 @@ use Rattle.lockstep_copies.specs.Copies.{IsCopyInLockstep}
 use Rattle.fault_strobes.specs.Said.{plan_by}
 use Rattle.fault_strobes.specs.Strobes.{StrobesGoOn}
 use Rattle.fault_strobes.proofs.Faults.{copy-back, time-same}
-use Rattle.copy_window.specs.Copies.{differences_in, done_in}
-use Rattle.copy_window.specs.ShardFaults.{GoesOnAt, beside_by, kept_by, said_by}
-use Rattle.copy_window.specs.declared.fault.ShardFault.{ShardFault}
+use Rattle.copy_pass.specs.copy_window.Copies.{differences_in, done_in}
+use Rattle.copy_pass.specs.copy_window.ShardFaults.{GoesOnAt, beside_by, kept_by, said_by}
+use Rattle.copy_pass.specs.copy_window.declared.fault.ShardFault.{ShardFault}
 use Rattle.lockstep_shards.specs.Shards.{AreDueAlike, IsOpenBehind}
 use Rattle.lockstep_shards.proofs.Laws.{ShardLaws, fine-there, last, last-there, next-later, some-is, time-is}
 

@@ -21,7 +21,7 @@ use Rattle.copy_state.specs.Kept.{CopyKept}
 use Rattle.copy_between.specs.Beside.{KeepsWithin}
 use Rattle.process_code.specs.declared.state.ProcState.{ProcState}
 use Rattle.lockstep_copies.specs.Copies.{IsCopyInLockstep}
-use Rattle.copy_window.specs.Copies.{differences_in, done_in}
+use Rattle.copy_pass.specs.copy_window.Copies.{differences_in, done_in}
 use Rattle.lockstep_shards.proofs.Laws.{ShardLaws, some-is}
 
 -- Entries by number

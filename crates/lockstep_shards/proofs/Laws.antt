@@ -17,9 +17,9 @@ use Rattle.beside_laws.specs.Shards.{FaultsGoOn}
 use Rattle.beside_laws.specs.Stands.{RunsGoOn, RunsStand}
 use Rattle.quiet_index.specs.PassOver.{CopiesPassOver}
 use Rattle.quiet_slots.specs.Strobes.{StrobesSeeCopies}
-use Rattle.run_stands.specs.Standing.{StatesStandBetween}
+use Rattle.copy_pass.specs.run_stands.Standing.{StatesStandBetween}
 use Rattle.lockstep_copies.specs.Copies.{CopiesGoInLockstep}
-use Rattle.copy_window.specs.window_strobes.Neighbours.{time-between}
+use Rattle.copy_pass.specs.window_strobes.Neighbours.{time-between}
 
 pub record ShardLaws : Type 0 where
   pub copies : CopiesGoInLockstep

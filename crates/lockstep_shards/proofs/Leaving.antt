@@ -22,10 +22,10 @@ use Rattle.fault_strobes.specs.Said.{plan_by}
 use Rattle.fault_strobes.specs.Strobes.{EndsWith, StrobesGoOn}
 use Rattle.beside_laws.specs.Stands.{HasRun}
 use Rattle.quiet_slots.specs.SlotTimes.{slot-time}
-use Rattle.copy_window.specs.window_strobes.Passed.{HasPassed}
-use Rattle.copy_window.specs.Copies.{differences_in}
-use Rattle.copy_window.specs.ShardFaults.{GoesOnAt, IsShardFault, beside_by, kept_by, said_by}
-use Rattle.copy_window.specs.declared.fault.ShardFault.{ShardFault}
+use Rattle.copy_pass.specs.window_strobes.Passed.{HasPassed}
+use Rattle.copy_pass.specs.copy_window.Copies.{differences_in}
+use Rattle.copy_pass.specs.copy_window.ShardFaults.{GoesOnAt, IsShardFault, beside_by, kept_by, said_by}
+use Rattle.copy_pass.specs.copy_window.declared.fault.ShardFault.{ShardFault}
 use Rattle.lockstep_shards.proofs.Keeping.{lockstep-keeps, lockstep-no-states}
 use Rattle.lockstep_shards.proofs.Laws.{ShardLaws, open-at, some-is}
 

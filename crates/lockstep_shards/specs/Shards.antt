@@ -23,10 +23,10 @@ use Rattle.lockstep_copies.specs.Copies.{IsCopyInLockstep}
 use Rattle.fault_strobes.specs.Said.{Said, ends_there, said_at}
 use Rattle.fault_strobes.specs.Strobes.{EndsWith, StrobesGoOn}
 use Rattle.quiet_index.specs.PassOver.{SlotsLeaveAlone}
-use Rattle.copy_window.specs.window_strobes.Passed.{HasPassed}
-use Rattle.copy_window.specs.Copies.{differences_in}
-use Rattle.copy_window.specs.ShardFaults.{IsShardFault, said_by}
-use Rattle.copy_window.specs.declared.fault.ShardFault.{ShardFault}
+use Rattle.copy_pass.specs.window_strobes.Passed.{HasPassed}
+use Rattle.copy_pass.specs.copy_window.Copies.{differences_in}
+use Rattle.copy_pass.specs.copy_window.ShardFaults.{IsShardFault, said_by}
+use Rattle.copy_pass.specs.copy_window.declared.fault.ShardFault.{ShardFault}
 
 -- a fault of a shard behind a slot of the good first run of a number, at its time; more slots come, so many strobes passed, and nothing was found of it so far
 pub record IsOpenBehind (design : FlatDesign) (plan : TestPlan) (fault : StuckAt) (number time passed : ℕ) (own : ShardFault) : Type 0 where

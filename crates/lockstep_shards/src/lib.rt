@@ -8,12 +8,12 @@
 
 ghost use Rattle.lockstep_shards.specs.Shards.{ShardsGoInLockstep};
 
-pub use copy_window::{
-    ShardFault, WindowStrobes, begin_fault, empty_log, good_bits, gradings_take_steps, new_fault,
-    new_room, resume_fault, runs_take_steps, strobes_after, strobes_of,
+pub use copy_pass::{
+    Machine, ShardFault, WindowStrobes, begin_fault, empty_log, good_bits, is_unseen, keeps_value,
+    new_fault, new_room, next_touched, pass_over, resume_fault, runs_take_steps, searches_begin,
+    strobes_after, strobes_of,
 };
 pub use lockstep_copies::copies_go_in_lockstep;
-pub use run_stands::Machine;
 
 /// A fault of a shard from slot to slot.
 pub fn shards_go_in_lockstep()
@@ -31,5 +31,5 @@ pub fn shards_go_in_lockstep()
     lockstep_copies::copies_go_in_lockstep();
     quiet_index::copies_pass_over();
     quiet_slots::strobes_see();
-    run_stands::states_stand();
+    copy_pass::states_stand();
 }

@@ -1,6 +1,6 @@
 -- Room and faults where a slot begins.
-use Rattle.std.proofs.Common.{◌≡◌, ◌+◌, ◌-◌, ◌<◌, ◌≤◌, ℕ, suc, List, [], ◌∷◌, length, refl, sym, ap, subst, ◌∙◌, arith}
-use Rattle.std.specs.Prelude.{Some}
+use Rattle.std.proofs.Common.{◌≡◌, ◌+◌, ◌-◌, ◌<◌, ◌≤◌, ℕ, suc, List, [], ◌∷◌, length, refl, sym, ap, subst, ◌∙◌, inl, inr, arith}
+use Rattle.std.specs.Prelude.{◌⊎◌, Some}
 use Rattle.std.specs.List.{AllZip}
 use Rattle.vf_base.specs.declared.limits.TheConstants.{MAX_END}
 use Rattle.v_design.specs.Designs.{FlatDesign, StuckAt, TestPlan, good_machine}
@@ -8,23 +8,27 @@ use Rattle.v_design.specs.Grades.{phases}
 use Rattle.v_design.specs.PlainDesigns.{plan_of}
 use Rattle.v_design.specs.RulesHold.{plan_rules_hold}
 use Rattle.v_design.specs.Runs.{FirstSlot, most_steps}
+use Rattle.v_design.specs.States.{State}
 use Rattle.v_design.specs.declared.plan.Plan.{Plan}
 use Rattle.between_slots.specs.Between.{window_phases}
+use Rattle.copy_laws.specs.Differences.{Differences}
 use Rattle.copy_state.specs.Copied.{IsSameState, KeepsSame}
 use Rattle.copy_state.specs.Kept.{CopyKept}
 use Rattle.process_code.specs.declared.state.ProcState.{ProcState}
 use Rattle.lockstep_phase.specs.block_events.declared.runner.Runner.{Runner}
 use Rattle.lockstep_phase.specs.lockstep_block.declared.room.FaultInSlot.{FaultInSlot}
-use Rattle.lockstep_phase.specs.lockstep_copies.Copies.{IsCopyInLockstep, own_begins}
+use Rattle.lockstep_phase.specs.lockstep_copies.Copies.{IsCopyInLockstep}
+use Rattle.lockstep_phase.specs.lockstep_slots.Kept.{kept_of}
 use Rattle.lockstep_phase.specs.lockstep_slots.Places.{Place, first_place, steps_left}
 use Rattle.lockstep_phase.specs.lockstep_steps.Laws.{StepsGoOn}
 use Rattle.lockstep_phase.specs.beside_phases.Laws.{OwnStepsGoOn}
 use Rattle.lockstep_phase.specs.moment_laws.Shown.{MomentKept}
 use Rattle.moments_stand.specs.Standing.{MomentsStand}
 use Rattle.race_notes.specs.Notes.{HasNoNotes}
+use Rattle.start_laws.specs.Starts.{FirstSlotGoesOn, StartInLockstep}
 use Rattle.trace_window.specs.Moments.{window_events}
 use Rattle.lockstep_phase.specs.window_places.Passing.{events_before}
-use Rattle.lockstep_phase.specs.slot_laws.Copies.{MayBeginSlot}
+use Rattle.lockstep_phase.specs.slot_laws.Copies.{BeginsBehind, BeginsFirst, MayBeginSlot, lockstep_differences}
 use Rattle.lockstep_phase.specs.slot_laws.Laws.{SlotsAreCounted, events_all}
 use Rattle.lockstep_phase.specs.slot_laws.Slots.{IsRoomAtSlot, SlotGoesOn}
 use Rattle.lockstep_phase.proofs.slot_laws.Ends.{left-few, slot-begins, slot-early}
@@ -49,6 +53,27 @@ none-same (entry ∷ old) new none same = cc
 
 -- A fault enters
 
+-- the same that is kept begins a slot in the same state
+given-same : (design : FlatDesign) (plan : TestPlan) (fault : StuckAt) (number : ℕ) (copy new : CopyKept) → KeepsSame copy new → (slot : FirstSlot) (begins : State) →
+    BeginsBehind design plan fault number copy slot begins ⊎ BeginsFirst design fault number copy begins →
+    BeginsBehind design plan fault number new slot begins ⊎ BeginsFirst design fault number new begins
+given-same design plan fault number copy new same slot begins given =
+    let alike : lockstep_differences copy ≡ lockstep_differences new = λ i. record { values = sym same.values i; activities = []; updates = sym same.updates i } in
+    elim given [
+      | inl behind ↦ inl (record {
+        before = behind.before;
+        number_is = behind.number_is;
+        time = behind.time;
+        lockstep = subst (IsCopyInLockstep design plan fault behind.before behind.time) alike behind.lockstep;
+        begins_is = behind.begins_is;
+      })
+      | inr first ↦ inr (record {
+        number_is = first.number_is;
+        begins_is = first.begins_is;
+        together = subst (λ (d : Differences). StartInLockstep design fault (kept_of d)) alike first.together;
+      })
+    ]
+
 -- from a copy that may begin the slot, with that kept once more, and the steps that the slot's events leave to spare
 pub enters : SlotsAreCounted → (design : FlatDesign) (plan : TestPlan) (fault : StuckAt) (from until number first behind : ℕ) (copy : CopyKept) (one : FaultInSlot) → from + number < until →
     MayBeginSlot design plan fault (from + number) copy → first ≡ length (window_events design plan from (from + number)) →
@@ -63,14 +88,11 @@ enters counted design plan fault from until number first behind copy one within 
       within = within;
       may = record {
         none = none-same copy.states one.own.copy.states of.none same.states;
-        before = of.before;
-        number_is = of.number_is;
-        time = of.time;
-        lockstep =
-            subst (IsCopyInLockstep design plan fault of.before of.time) (λ i. record { values = sym same.values i; activities = []; updates = sym same.updates i }) of.lockstep;
         slot = of.slot;
         stands = of.stands;
         fine = of.fine;
+        begins = of.begins;
+        given = given-same design plan fault (from + number) copy one.own.copy same of.slot of.begins of.given;
       };
       lanes = empty;
       notes = subst (λ m. HasNoNotes m one.notes) begins none;
@@ -131,10 +153,10 @@ module _ (design : FlatDesign) (plan : TestPlan) (from until number : ℕ) (runn
         omega (arith, own, few, all)
 
     -- so it goes in lockstep there
-    pub begins-slot : StepsGoOn → OwnStepsGoOn → MomentsStand → plan.end ≤ MAX_END →
-        SlotGoesOn design plan fault of.may.slot (own_begins design plan fault of.may.time of.may.slot) from until number (first_place at.first at.later) runner before behind one.notes one.own
+    pub begins-slot : StepsGoOn → FirstSlotGoesOn → OwnStepsGoOn → MomentsStand → plan.end ≤ MAX_END →
+        SlotGoesOn design plan fault of.may.slot of.may.begins from until number (first_place at.first at.later) runner before behind one.notes one.own
         one.spare one.tried.items one.apart.items
-    begins-slot steps owns moments early =
-        slot-begins steps owns design plan fault from until number one.own.copy at.first at.later one.notes one.own one.spare one.tried.items one.apart.items of.may phases-are of.within
+    begins-slot steps first owns moments early =
+        slot-begins steps first owns design plan fault from until number one.own.copy at.first at.later one.notes one.own one.spare one.tried.items one.apart.items of.may phases-are of.within
         (slot-early moments design plan (from + number) of.may.slot early of.may.stands) refl refl of.lanes runner before behind at.room moment-is
         (subst (λ m. HasNoNotes m one.notes) (sym moment-is) of.notes) steps-spare of.untried of.together

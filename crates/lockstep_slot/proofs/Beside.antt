@@ -10,12 +10,12 @@ use Rattle.v_design.specs.declared.plan.Fault.{Fault}
 use Rattle.lockstep_phase.specs.block_events.declared.runner.Runner.{Runner}
 use Rattle.copy_laws.specs.Windows.{good_slots}
 use Rattle.lockstep_phase.specs.copy_skip.Limits.{SiteIsThere}
-use Rattle.lockstep_phase.specs.lockstep_copies.Copies.{IsCopyInLockstep, own_begins}
+use Rattle.lockstep_phase.specs.lockstep_copies.Copies.{IsCopyInLockstep}
 use Rattle.lockstep_phase.specs.lockstep_copy.Laws.{KeptEnds, LanesTellTurns}
 use Rattle.lockstep_phase.specs.phase_faults.Beside.{ComesThroughPhase, HasSite, MayGoOnIf, StaysBeside}
 use Rattle.lockstep_phase.specs.lockstep_block.Blocks.{TriedInSlot}
 use Rattle.lockstep_phase.specs.beside_phases.Laws.{OwnStepsGoOn}
-use Rattle.lockstep_phase.specs.good_runs.declared.tried.TriedStep.{TriedStep}
+use Rattle.good_runs.specs.declared.tried.TriedStep.{TriedStep}
 use Rattle.lockstep_phase.specs.phase_faults.declared.beside.FaultBeside.{FaultBeside}
 use Rattle.lockstep_phase.specs.lockstep_slots.Places.{Place, first_place, next_phase}
 use Rattle.lockstep_phase.specs.lockstep_steps.Laws.{StepsGoOn}
@@ -23,6 +23,7 @@ use Rattle.lockstep_phase.specs.moment_laws.Shown.{MomentKept}
 use Rattle.moments_stand.specs.Standing.{MomentsStand}
 use Rattle.phase_order.specs.Order.{PhasesFollow}
 use Rattle.race_notes.specs.Notes.{HasNoNotes}
+use Rattle.start_laws.specs.Starts.{FirstSlotGoesOn}
 use Rattle.lockstep_phase.specs.slot_laws.Copies.{MayBeginSlot, lockstep_differences}
 use Rattle.lockstep_phase.specs.slot_laws.Laws.{events_all}
 use Rattle.lockstep_phase.specs.slot_laws.Slots.{IsRoomAtSlot, IsRoomIn, PhaseIsThrough, SlotGoesOn, SlotMayGoOn, TurnsAll, further}
@@ -39,19 +40,19 @@ use Rattle.lockstep_slot.proofs.Lists.{HasPassing}
 pub record GoesBeside (design : FlatDesign) (plan : TestPlan) (from until number : ℕ) (place : Place) (runner : Runner) (before behind : MomentKept) (old new : FaultBeside) : Type 0 where
   pub stays : StaysBeside old new
   pub on : new.goes ≡ true → (of : BeginsSlot design plan (fault_of old.fault) from until number old.one) →
-      SlotGoesOn design plan (fault_of old.fault) of.may.slot (own_begins design plan (fault_of old.fault) of.may.time of.may.slot) from until number place runner before behind new.one.notes
+      SlotGoesOn design plan (fault_of old.fault) of.may.slot of.may.begins from until number place runner before behind new.one.notes
       new.one.own new.one.spare new.one.tried.items new.one.apart.items
   pub most : old.goes ≡ true → (of : BeginsSlot design plan (fault_of old.fault) from until number old.one) →
-      TriedInSlot design (fault_of old.fault) of.may.slot (own_begins design plan (fault_of old.fault) of.may.time of.may.slot) new.one.tried.items
+      TriedInSlot design (fault_of old.fault) of.may.slot of.may.begins new.one.tried.items
 
 -- and through the phase that it was in there
 pub record ThroughBeside (design : FlatDesign) (plan : TestPlan) (from until number : ℕ) (place : Place) (runner : Runner) (before behind : MomentKept) (old new : FaultBeside) : Type 0 where
   pub stays : StaysBeside old new
   pub through : new.goes ≡ true → (of : BeginsSlot design plan (fault_of old.fault) from until number old.one) →
-      PhaseIsThrough design plan (fault_of old.fault) of.may.slot (own_begins design plan (fault_of old.fault) of.may.time of.may.slot) from until number place runner before behind new.one.notes
+      PhaseIsThrough design plan (fault_of old.fault) of.may.slot of.may.begins from until number place runner before behind new.one.notes
       new.one.own new.one.spare new.one.tried.items new.one.apart.items
   pub most : old.goes ≡ true → (of : BeginsSlot design plan (fault_of old.fault) from until number old.one) →
-      TriedInSlot design (fault_of old.fault) of.may.slot (own_begins design plan (fault_of old.fault) of.may.time of.may.slot) new.one.tried.items
+      TriedInSlot design (fault_of old.fault) of.may.slot of.may.begins new.one.tried.items
 
 -- What stays
 
@@ -89,16 +90,16 @@ site-stays design old new stays there = subst (λ (f : Fault). SiteIsThere desig
 
 module _ (design : FlatDesign) (plan : TestPlan) (from until number : ℕ) where
   -- at the slot's beginning
-  pub begins-beside : StepsGoOn → OwnStepsGoOn → MomentsStand → plan.end ≤ MAX_END → (runner : Runner) (before behind : MomentKept) (at : IsRoomAtSlot design plan from until number runner
+  pub begins-beside : StepsGoOn → FirstSlotGoesOn → OwnStepsGoOn → MomentsStand → plan.end ≤ MAX_END → (runner : Runner) (before behind : MomentKept) (at : IsRoomAtSlot design plan from until number runner
       before behind)
       (each : FaultBeside) → GoesBeside design plan from until number (first_place at.first at.later) runner before behind each each
-  begins-beside steps owns moments early runner before behind at each = record {
+  begins-beside steps first owns moments early runner before behind at each = record {
     stays = stays-same each;
-    on = λ goes of. begins-slot design plan from until number runner before behind at (fault_of each.fault) each.one of steps owns moments early;
+    on = λ goes of. begins-slot design plan from until number runner before behind at (fault_of each.fault) each.one of steps first owns moments early;
     most = λ went of.
-        tried-there design plan (fault_of each.fault) of.may.slot (own_begins design plan (fault_of each.fault) of.may.time of.may.slot) from until number (first_place at.first at.later) runner before
+        tried-there design plan (fault_of each.fault) of.may.slot of.may.begins from until number (first_place at.first at.later) runner before
         behind each.one.notes each.one.own each.one.spare each.one.tried.items each.one.apart.items
-        (begins-slot design plan from until number runner before behind at (fault_of each.fault) each.one of steps owns moments early);
+        (begins-slot design plan from until number runner before behind at (fault_of each.fault) each.one of steps first owns moments early);
   }
 
   module _ (now : ℕ) (time : (slot : FirstSlot) → slice_get (good_slots design plan) (from + number) ≡ Some slot → now ≡ slot.begins.time) (place : Place) where
@@ -111,7 +112,7 @@ module _ (design : FlatDesign) (plan : TestPlan) (from until number : ℕ) where
     turns-beside steps owns follow lanes next later follows runner before behind new_runner new_before new_behind room old mid new through turns = record {
       stays = stays-on old mid new through.stays (turn-stays now new_before mid new turns);
       on = λ still of.
-          let begins = own_begins design plan (fault_of old.fault) of.may.time of.may.slot in
+          let begins = of.may.begins in
           let was = through.through (sym turns.goes ∙ still) of in
           let there = next_phase next later (further (length place.left) place) in
           subst
@@ -130,7 +131,7 @@ module _ (design : FlatDesign) (plan : TestPlan) (from until number : ℕ) where
           (subst (λ n. HasNoNotes n new.one.notes) room.before_turns.moment (turns.cleared still)) new_runner new_before new_behind room.whole room.machine_is room.state_is room.before_turns
           room.behind_turns (subst (λ n. TurnsAll n new_before mid.one.own new.one.own) (time of.may.slot of.may.stands) (turns.turns still)))));
       most = λ went of.
-          subst (TriedInSlot design (fault_of old.fault) of.may.slot (own_begins design plan (fault_of old.fault) of.may.time of.may.slot)) (sym turns.tried) (through.most went of);
+          subst (TriedInSlot design (fault_of old.fault) of.may.slot of.may.begins) (sym turns.tried) (through.most went of);
     }
 
   module _ (place : Place) where
@@ -144,7 +145,7 @@ module _ (design : FlatDesign) (plan : TestPlan) (from until number : ℕ) where
         (record {
           number = number;
           slot = of.may.slot;
-          begins = own_begins design plan (fault_of old.fault) of.may.time of.may.slot;
+          begins = of.may.begins;
           place = place;
           on = goes.on still of;
         })
@@ -153,19 +154,19 @@ module _ (design : FlatDesign) (plan : TestPlan) (from until number : ℕ) where
     through-most : (runner : Runner) (before behind : MomentKept) (new_runner : Runner) (next later : MomentKept) (old mid new : FaultBeside) →
         GoesBeside design plan from until number place runner before behind old mid → ComesThroughPhase design plan from until runner before behind new_runner next later mid new →
         old.goes ≡ true → (of : BeginsSlot design plan (fault_of old.fault) from until number old.one) →
-        TriedInSlot design (fault_of old.fault) of.may.slot (own_begins design plan (fault_of old.fault) of.may.time of.may.slot) new.one.tried.items
+        TriedInSlot design (fault_of old.fault) of.may.slot of.may.begins new.one.tried.items
     through-most runner before behind new_runner next later old mid new goes comes went of = go mid.goes refl
       where
-        go : (still : Bool) → mid.goes ≡ still → TriedInSlot design (fault_of old.fault) of.may.slot (own_begins design plan (fault_of old.fault) of.may.time of.may.slot) new.one.tried.items
+        go : (still : Bool) → mid.goes ≡ still → TriedInSlot design (fault_of old.fault) of.may.slot of.may.begins new.one.tried.items
         go true is =
-            let begins = own_begins design plan (fault_of old.fault) of.may.time of.may.slot in
+            let begins = of.may.begins in
             subst (λ (f : Fault). TriedInSlot design (fault_of f) of.may.slot begins new.one.tried.items) goes.stays.fault
             (comes.most is number of.may.slot begins place
             (subst (λ (f : Fault). SlotGoesOn design plan (fault_of f) of.may.slot begins from until number place runner before behind mid.one.notes mid.one.own mid.one.spare
             mid.one.tried.items mid.one.apart.items)
             (sym goes.stays.fault) (goes.on is of)))
         go false is =
-            subst (TriedInSlot design (fault_of old.fault) of.may.slot (own_begins design plan (fault_of old.fault) of.may.time of.may.slot)) (sym (comes.stays.left is)) (goes.most went of)
+            subst (TriedInSlot design (fault_of old.fault) of.may.slot of.may.begins) (sym (comes.stays.left is)) (goes.most went of)
 
     pub goes-through : (runner : Runner) (before behind : MomentKept) (new_runner : Runner) (next later : MomentKept) (old mid new : FaultBeside) →
         GoesBeside design plan from until number place runner before behind old mid → ComesThroughPhase design plan from until runner before behind new_runner next later mid new →
@@ -173,7 +174,7 @@ module _ (design : FlatDesign) (plan : TestPlan) (from until number : ℕ) where
     goes-through runner before behind new_runner next later old mid new goes comes = record {
       stays = stays-on old mid new goes.stays comes.stays;
       through = λ still of.
-          let begins = own_begins design plan (fault_of old.fault) of.may.time of.may.slot in
+          let begins = of.may.begins in
           let on = goes.on (comes.stays.before still) of in
           subst
           (λ (f : Fault). PhaseIsThrough design plan (fault_of f) of.may.slot begins from until number place new_runner next later new.one.notes new.one.own new.one.spare
@@ -225,12 +226,12 @@ module _ (design : FlatDesign) (plan : TestPlan) (from until number : ℕ) where
         turn-there begins = λ still.
             let of = begins (through.stays.before still) in
             let on = (through.through still of).on in
-            are-processes design plan (fault_of old.fault) of.may.slot (own_begins design plan (fault_of old.fault) of.may.time of.may.slot) from until before.moment
+            are-processes design plan (fault_of old.fault) of.may.slot of.may.begins from until before.moment
             (further (length place.left) place) before new.one.notes new.one.own new.one.spare new.one.tried.items new.one.apart.items on.room.at.before_at on.goes
 
         -- the steps that it took itself are those of a moment of its slot
         most-there : BeginsSlotIf design plan from until number old → old.goes ≡ true → (of : MayBeginSlot design plan (fault_of old.fault) (from + number) old.one.own.copy) →
-            TriedInSlot design (fault_of old.fault) of.slot (own_begins design plan (fault_of old.fault) of.time of.slot) new.one.tried.items
+            TriedInSlot design (fault_of old.fault) of.slot of.begins new.one.tried.items
         most-there begins went of =
             let was = begins went in
             through.most went
@@ -254,16 +255,16 @@ module _ (design : FlatDesign) (plan : TestPlan) (from until number : ℕ) where
         }
 
         -- behind the last phase the slot is through
-        pub comes-behind : StepsGoOn → OwnStepsGoOn → KeptEnds → place.later ≡ [] → BeginsSlotIf design plan from until number old → KeepsAscending new → ComesThroughSlot design plan (from
+        pub comes-behind : StepsGoOn → FirstSlotGoesOn → OwnStepsGoOn → KeptEnds → place.later ≡ [] → BeginsSlotIf design plan from until number old → KeepsAscending new → ComesThroughSlot design plan (from
             + number) old new
-        comes-behind steps owns ends last begins up = record {
+        comes-behind steps first owns ends last begins up = record {
           stays = through.stays;
           through = λ still slot is.
               let of = begins (through.stays.before still) in
               let was = through.through still of in
               subst (λ (s : FirstSlot). IsCopyInLockstep design plan (fault_of old.fault) (from + number) s.begins.time (lockstep_differences new.one.own.copy))
               (some-slot of.may.slot slot (sym of.may.stands ∙ is))
-              (slot-through steps owns design plan (fault_of old.fault) from until number old.one.own.copy place.phase place.later new.one.notes new.one.own new.one.spare
+              (slot-through steps first owns design plan (fault_of old.fault) from until number old.one.own.copy place.phase place.later new.one.notes new.one.own new.one.spare
               new.one.tried.items new.one.apart.items of.may ends
               runner before behind
               (record { place = further (length place.left) place; on = was.on; through = further-all place; last = last; clean = was.clean }) up.values up.updates);

@@ -20,6 +20,7 @@ use Rattle.lockstep_phase.specs.lockstep_steps.Laws.{StepsGoOn}
 use Rattle.lockstep_phase.specs.beside_phases.Laws.{OwnStepsGoOn}
 use Rattle.lockstep_phase.specs.moment_laws.Shown.{MomentKept}
 use Rattle.moments_stand.specs.Standing.{MomentsStand}
+use Rattle.start_laws.specs.Starts.{FirstSlotGoesOn}
 use Rattle.phase_order.specs.Order.{PhasesFollow}
 use Rattle.lockstep_phase.specs.slot_laws.Laws.{SlotsAreCounted}
 use Rattle.lockstep_phase.specs.slot_laws.Slots.{IsRoomAtSlot, IsRoomIn, further}
@@ -75,17 +76,17 @@ pub record HaveCome (design : FlatDesign) (plan : TestPlan) (from until number n
 
 module _ (design : FlatDesign) (plan : TestPlan) (from until number now count : ℕ) (old : List FaultBeside) (begins : AllHold (BeginsSlotIf design plan from until number) old) where
   -- the slot's beginning
-  pub first-come : StepsGoOn → OwnStepsGoOn → MomentsStand → SlotsAreCounted → plan.end ≤ MAX_END → (runner : Runner) (before behind : MomentKept) →
+  pub first-come : StepsGoOn → FirstSlotGoesOn → OwnStepsGoOn → MomentsStand → SlotsAreCounted → plan.end ≤ MAX_END → (runner : Runner) (before behind : MomentKept) →
       IsRoomAtSlot design plan from until number runner before behind → before.time ≡ now → count ≡ length (window_phases design plan from (from + (number + 1))) →
       HaveCome design plan from until number now count old runner before behind old
-  first-come steps owns moments counted early runner before behind at time is = record {
+  first-come steps first owns moments counted early runner before behind at time is = record {
     place = first_place at.first at.later;
     room = at.room;
     time_is = time;
     count_is = last-is design plan from until number runner before behind at counted count is;
     each =
         zip-same (GoesBeside design plan from until number (first_place at.first at.later) runner before behind) (BeginsSlotIf design plan from until number)
-        (λ x _. begins-beside design plan from until number steps owns moments early runner before behind at x) old begins;
+        (λ x _. begins-beside design plan from until number steps first owns moments early runner before behind at x) old begins;
   }
 
   module _ (runner : Runner) (before behind : MomentKept) (faults : List FaultBeside) (come : HaveCome design plan from until number now count old runner before behind faults) where
@@ -130,13 +131,13 @@ module _ (design : FlatDesign) (plan : TestPlan) (from until number now count : 
           (none-passes still_goes mid none)
 
       -- behind the last phase those that go are through
-      pub all-behind : StepsGoOn → OwnStepsGoOn → KeptEnds → count ≤ before.phase + 1 → AllHold KeepsAscending mid → AllZip (ComesThroughSlot design plan (from + number)) old mid
-      all-behind steps owns ends few up =
+      pub all-behind : StepsGoOn → FirstSlotGoesOn → OwnStepsGoOn → KeptEnds → count ≤ before.phase + 1 → AllHold KeepsAscending mid → AllZip (ComesThroughSlot design plan (from + number)) old mid
+      all-behind steps first owns ends few up =
           let all = come.count_is in
           let last = none-later come.place.later (omega (arith, all, few)) in
           zip-pairs (ThroughBeside design plan from until number come.place through_runner through_before through_behind) (ComesThroughSlot design plan (from + number))
           (BeginsSlotIf design plan from until number) KeepsAscending
-          (λ x y through one rises. comes-behind design plan from until number come.place through_runner through_before through_behind x y through steps owns ends last one rises) old mid all-through
+          (λ x y through one rises. comes-behind design plan from until number come.place through_runner through_before through_behind x y through steps first owns ends last one rises) old mid all-through
           begins up
 
       -- Where a turn comes

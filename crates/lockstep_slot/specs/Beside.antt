@@ -6,7 +6,7 @@ use Rattle.v_design.specs.Plain.{fault_of}
 use Rattle.v_design.specs.Runs.{FirstSlot, most_steps}
 use Rattle.copy_laws.specs.Differences.{Ascend}
 use Rattle.copy_laws.specs.Windows.{good_slots}
-use Rattle.lockstep_phase.specs.lockstep_copies.Copies.{IsCopyInLockstep, own_begins}
+use Rattle.lockstep_phase.specs.lockstep_copies.Copies.{IsCopyInLockstep}
 use Rattle.race_notes.specs.Notes.{HasNoNotes}
 use Rattle.trace_window.specs.Moments.{window_events}
 use Rattle.lockstep_phase.specs.slot_laws.Copies.{MayBeginSlot, lockstep_differences}
@@ -38,7 +38,7 @@ pub record ComesThroughSlot (design : FlatDesign) (plan : TestPlan) (number : �
   pub through : new.goes ≡ true → (slot : FirstSlot) → slice_get (good_slots design plan) number ≡ Some slot →
       IsCopyInLockstep design plan (fault_of old.fault) number slot.begins.time (lockstep_differences new.one.own.copy)
   pub tried : old.goes ≡ true → (of : MayBeginSlot design plan (fault_of old.fault) number old.one.own.copy) →
-      TriedInSlot design (fault_of old.fault) of.slot (own_begins design plan (fault_of old.fault) of.time of.slot) new.one.tried.items
+      TriedInSlot design (fault_of old.fault) of.slot of.begins new.one.tried.items
 
 -- what is kept of a fault ascends, each object and process once
 pub record KeepsAscending (each : FaultBeside) : Type 0 where

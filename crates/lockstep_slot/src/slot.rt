@@ -6,7 +6,7 @@ ghost use Rattle.vf_base.specs.Lists.{AllHold};
 ghost use Rattle.v_design.specs.Runs.{FirstSlot};
 ghost use Rattle.between_slots.specs.Between.{window_phases};
 ghost use Rattle.copy_laws.specs.Windows.{good_slots};
-ghost use Rattle.lockstep_phase.specs.slot_steps.Rises.{RisesWithin};
+ghost use Rattle.slot_steps.specs.Rises.{RisesWithin};
 ghost use Rattle.lockstep_phase.specs.lockstep_block.Rooms.{IsLockstepRoom};
 ghost use Rattle.lockstep_phase.specs.lockstep_room.Rooms.{AreCounts};
 ghost use Rattle.lockstep_phase.specs.phase_faults.Beside.{HasSite, ticked_of};
@@ -96,6 +96,7 @@ fn go_through_phases<N: World, L: Ledger>(
     lockstep_phase::steps_go_on();
     moments_stand::moments_stand();
     phase_order::phases_follow();
+    start_laws::first_slot_goes_on();
     lockstep_phase::slots_are_counted();
     let _plan = setup.plan();
     'phases: while room.before.phase() + 1 < last {

@@ -9,7 +9,7 @@
 
 ghost use Rattle.lockstep_steps.specs.Laws.{StepsGoOn};
 
-pub use lockstep_notes::{Standing, note_block};
+pub use lockstep_notes::{Standing, note_block, places_in_windows};
 
 /// A slot in lockstep from step to step.
 pub fn steps_go_on()

@@ -1,6 +1,7 @@
 mod Writes
 pub use Rattle.phase_faults.proofs as phase_faults
 pub use Rattle.phase_faults.proofs.slot_laws as slot_laws
+pub use Rattle.phase_faults.proofs.beside_phases as beside_phases
 pub use Rattle.phase_faults.proofs.lockstep_block as lockstep_block
 pub use Rattle.phase_faults.proofs.lockstep_room as lockstep_room
 pub use Rattle.phase_faults.proofs.copy_skip as copy_skip

@@ -10,8 +10,8 @@ mod turn;
 
 pub use phase_faults::{
     FaultBeside, FaultInSlot, FilterRoom, LockstepRoom, LockstepWindow, NextTouches, begin_slot,
-    follow_block, is_free, kept_ends, lanes_tell_turns, least_until, limits_tell, look_ahead,
+    follow_block, is_free, kept_ends, lanes_tell_turns, least_stop, limits_tell, look_ahead,
     look_ahead_all, own_steps_go_on, places_are_told, run_own_block, slots_are_counted, stand_at,
-    steps_go_on,
+    steps_go_on, stop_of, stops_of,
 };
 pub use turn::{take_turn, turn_each};

@@ -1,8 +1,10 @@
 // Moments before which no event touches a copy, by what is remembered.
 
-ghost use Rattle.std.specs.Prelude.{◌<◌, ◌≤◌, length};
+ghost use Rattle.std.specs.Prelude.{◌<◌, ◌≤◌, length, map};
 ghost use Rattle.vf_base.specs.Base.{object_number, process_number};
 ghost use Rattle.v_design.specs.Plain.{site_of};
+ghost use Rattle.copy_laws.specs.Differences.{Ascend};
+ghost use Rattle.copy_state.specs.Listed.{entry_of};
 ghost use Rattle.trace_window.specs.Acted.{stepped_at};
 ghost use Rattle.trace_window.specs.Moments.{window_events};
 ghost use Rattle.block_skip.specs.Blocks.{AreProcesses, LeftAlone, StepsLeftAlone};
@@ -13,12 +15,15 @@ use crate::search::{object_limit, step_limit};
 use crate::stretch::{Stretch, has_moment};
 use crate::table::{TouchTable, take_up};
 use copy_skip::site_limit;
-use copy_state::FaultCopy;
+use copy_state::{Entry, FaultCopy};
+use four_value::Vec4;
 use good_trace::{Setup, TraceWindow};
 use v_design::{Fault, World};
 use vf_base::{ObjectId, ProcId};
 
 /// A moment up to which all events of a window from another on leave an object alone; it is remembered.
+// The loops over what is kept call it for each value, and most are remembered.
+#[inline(always)]
 fn object_until<N: World>(
     setup: &Setup<'_, N>,
     window: &TraceWindow<N>,
@@ -41,8 +46,32 @@ fn object_until<N: World>(
     until
 }
 
-/// The limit, or a lesser moment, before which all events from a first one on leave all objects alone of which a copy keeps a value.
-fn values_limit<N: World>(
+/// The limit, or a lesser moment, before which all events from a first one on leave all objects alone of which a value is listed.
+fn listed_limit<N: World>(
+    setup: &Setup<'_, N>,
+    window: &TraceWindow<N>,
+    objects: &mut Vec<Stretch>,
+    listed: &[Entry<Vec4>],
+    first: u32,
+    limit: u32,
+) -> u32
+    requires there { AreThere N.design (map entry_of listed.now) }
+    requires ascend { Ascend (map entry_of listed.now) }
+    requires known { AreLeftBy N.design (window_events N.design N.plan window.now.before window.now.through) objects.old.items }
+    ensures low { result ≤ limit }
+    ensures alone { AreLeftAlone N.design (window_events N.design N.plan window.now.before window.now.through) (map entry_of listed.now) (length N.design.objects) first result }
+    ensures known { AreLeftBy N.design (window_events N.design N.plan window.now.before window.now.through) objects.new.items }
+{
+    let mut least = limit;
+    'objects: for own in listed {
+        let until = object_until(setup, window, objects, ObjectId(own.number), first);
+        least = least.min(until);
+    }
+    least
+}
+
+/// The same of all objects of which a copy keeps a value, as one after the other is found.
+fn found_limit<N: World>(
     setup: &Setup<'_, N>,
     window: &TraceWindow<N>,
     objects: &mut Vec<Stretch>,
@@ -66,6 +95,28 @@ fn values_limit<N: World>(
         next = copy.next_held(ObjectId(held.object.0 + 1), held.hint);
     }
     least
+}
+
+/// The limit, or a lesser moment, before which all events from a first one on leave all objects alone of which a copy keeps a value.
+fn values_limit<N: World>(
+    setup: &Setup<'_, N>,
+    window: &TraceWindow<N>,
+    objects: &mut Vec<Stretch>,
+    copy: &FaultCopy,
+    first: u32,
+    limit: u32,
+) -> u32
+    requires there { AreThere N.design copy.now.values }
+    requires known { AreLeftBy N.design (window_events N.design N.plan window.now.before window.now.through) objects.old.items }
+    ensures low { result ≤ limit }
+    ensures alone { AreLeftAlone N.design (window_events N.design N.plan window.now.before window.now.through) copy.now.values (length N.design.objects) first result }
+    ensures known { AreLeftBy N.design (window_events N.design N.plan window.now.before window.now.through) objects.new.items }
+{
+    copy.ascending();
+    match copy.listed() {
+        Some(listed) => listed_limit(setup, window, objects, listed, first, limit),
+        None => found_limit(setup, window, objects, copy, first, limit),
+    }
 }
 
 /// A moment up to which neither a process nor its lane takes a step from another on; it is remembered.

@@ -5,6 +5,7 @@ pub mod Waiting
 pub mod Again
 pub mod Through
 pub use Rattle.slot_laws.proofs as slot_laws
+pub use Rattle.slot_laws.proofs.beside_phases as beside_phases
 pub use Rattle.slot_laws.proofs.lockstep_block as lockstep_block
 pub use Rattle.slot_laws.proofs.lockstep_room as lockstep_room
 pub use Rattle.slot_laws.proofs.copy_skip as copy_skip

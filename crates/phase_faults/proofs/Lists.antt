@@ -3,7 +3,7 @@ use Rattle.std.proofs.Common.{◌≡◌, ℕ, zero, suc, ◌+◌, ◌<◌, ◌�
 use Rattle.std.specs.List.{AllZip, sum_by}
 use Rattle.std.proofs.lemmas.List.Sums.{sum_by-cons, sum_by-set}
 use Rattle.vf_base.specs.Lists.{AllHold}
-use Rattle.slot_laws.specs.slot_steps.Rises.{RisesWithin}
+use Rattle.slot_steps.specs.Rises.{RisesWithin}
 
 -- of two lists the first so many elements were changed so, and the others are the same
 abbrev pub ChangedTo : {A : Type 0} → (A → A → Type 0) → ℕ → List A → List A → Type 0

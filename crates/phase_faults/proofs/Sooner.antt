@@ -1,11 +1,11 @@
 -- The least stop of some faults.
-use Rattle.std.proofs.Common.{◌≡◌, ℕ, ◌≤◌, Bool, true, false, List, [], ◌∷◌, refl, subst, inl, inr, arith}
+use Rattle.std.proofs.Common.{◌≡◌, ℕ, ◌≤◌, Bool, true, false, List, [], ◌∷◌, map, refl, ap, subst, ◌∙◌, inl, inr, arith}
 use Rattle.std.specs.Prelude.{if◌then◌else◌, min}
 use Rattle.std.specs.List.{fold}
 use Rattle.std.proofs.lemmas.Bool.{cases_lt}
 use Rattle.vf_base.specs.Lists.{AllHold}
 use Rattle.slot_laws.specs.Slots.{IsStop}
-use Rattle.phase_faults.specs.Beside.{sooner_of}
+use Rattle.phase_faults.specs.Beside.{sooner, sooner_of, stop_of}
 use Rattle.phase_faults.specs.declared.beside.FaultBeside.{FaultBeside}
 
 sooner-low : (goes : Bool) (until least : ℕ) → (if goes then min until least else least) ≤ least
@@ -48,3 +48,14 @@ pub fold-stop : (moments : List ℕ) (moment end least : ℕ) (faults : List Fau
 fold-stop moments moment end least [] stop all = stop
 fold-stop moments moment end least (each ∷ faults) stop all =
     fold-stop moments moment end (sooner_of least each) faults (sooner-stop moments moment end each.goes each.until least all.0 stop) all.1
+
+-- it is the least of their stops
+pub least-stops : (end least : ℕ) (faults : List FaultBeside) → least ≤ end → fold sooner least (map (stop_of end) faults) ≡ fold sooner_of least faults
+least-stops end least [] low = refl
+least-stops end least (each ∷ faults) low =
+    ap (λ n. fold sooner n (map (stop_of end) faults)) (one each.goes)
+    ∙ least-stops end (sooner_of least each) faults (let lower = sooner-low each.goes each.until least in omega (arith, low, lower))
+  where
+    one : (goes : Bool) → min (if goes then each.until else end) least ≡ (if goes then min each.until least else least)
+    one true = refl
+    one false = omega (arith, low)

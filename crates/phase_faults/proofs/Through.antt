@@ -17,7 +17,7 @@ use Rattle.slot_laws.specs.lockstep_room.Rooms.{AreCounts}
 use Rattle.slot_laws.specs.lockstep_slots.Places.{Place}
 use Rattle.slot_laws.specs.lockstep_steps.Laws.{StepsGoOn}
 use Rattle.slot_laws.specs.moment_laws.Shown.{MomentKept}
-use Rattle.slot_laws.specs.slot_steps.Rises.{RisesWithin}
+use Rattle.slot_steps.specs.Rises.{RisesWithin}
 use Rattle.window_blocks.specs.Kept.{AreBlocksOf, BlocksKept}
 use Rattle.slot_laws.specs.Slots.{IsRoomIn, PhaseEndsAt, SlotGoesOn, SlotMayGoOn, further}
 use Rattle.slot_laws.proofs.Further.{further-all}

@@ -16,8 +16,8 @@ use Rattle.slot_laws.specs.moment_laws.Shown.{MomentKept}
 use Rattle.race_notes.specs.Notes.{NotesKept}
 use Rattle.phase_faults.specs.Beside.{IsAheadIf, RoomWaits, TakesOwn}
 use Rattle.phase_faults.specs.declared.beside.FaultBeside.{FaultBeside}
-use Rattle.slot_laws.specs.good_runs.declared.tried.TriedStep.{TriedStep}
-use Rattle.slot_laws.specs.run_numbers.declared.numbers.RunApart.{RunApart}
+use Rattle.good_runs.specs.declared.tried.TriedStep.{TriedStep}
+use Rattle.run_numbers.specs.declared.numbers.RunApart.{RunApart}
 
 -- where its runner is at a place, a runner may come to stand there
 unfoldable pub may-stand-at : (design : FlatDesign) (plan : TestPlan) (time : ℕ) (place : Place) (runner : Runner) (before : MomentKept) → IsShownAt design plan place before → before.time ≡ time →

@@ -90,6 +90,14 @@ pub record LooksAhead (design : FlatDesign) (plan : TestPlan) (from until : ℕ)
   pub same : new ≡ record { fault = old.fault; one = old.one; until = new.until; goes = old.goes }
   pub ahead : IsAheadIf design plan from until moments moment end new
 
+-- the stop of a fault in a phase that ends with a moment; one that goes no longer has none before the end
+abbrev pub stop_of : ℕ → FaultBeside → ℕ
+stop_of end each = if each.goes then each.until else end
+
+-- the sooner one of two moments
+abbrev pub sooner : ℕ → ℕ → ℕ
+sooner least stop = min stop least
+
 -- the sooner one of a moment and the stop of a fault that still goes
 abbrev pub sooner_of : ℕ → FaultBeside → ℕ
 sooner_of least each = if each.goes then min each.until least else least

@@ -1,5 +1,6 @@
 pub mod Beside
 pub use Rattle.slot_laws.specs as slot_laws
+pub use Rattle.slot_laws.specs.beside_phases as beside_phases
 pub use Rattle.slot_laws.specs.lockstep_block as lockstep_block
 pub use Rattle.slot_laws.specs.lockstep_room as lockstep_room
 pub use Rattle.slot_laws.specs.copy_skip as copy_skip
@@ -14,9 +15,4 @@ pub use Rattle.slot_laws.specs.block_skip as block_skip
 pub use Rattle.slot_laws.specs.window_places as window_places
 pub use Rattle.slot_laws.specs.lockstep_copies as lockstep_copies
 pub use Rattle.slot_laws.specs.lockstep_slots as lockstep_slots
-pub use Rattle.slot_laws.specs.slot_steps as slot_steps
 pub use Rattle.slot_laws.specs.block_events as block_events
-pub use Rattle.slot_laws.specs.beside_phases as beside_phases
-pub use Rattle.slot_laws.specs.own_slots as own_slots
-pub use Rattle.slot_laws.specs.good_runs as good_runs
-pub use Rattle.slot_laws.specs.run_numbers as run_numbers

@@ -1,20 +1,22 @@
 // Up to which moment events leave alone what is kept.
 
-ghost use Rattle.std.specs.Prelude.{◌≡◌, ◌<◌, ◌≤◌, true, length};
+ghost use Rattle.std.specs.Prelude.{◌≡◌, ◌<◌, ◌≤◌, true, length, map, IfOk};
 ghost use Rattle.std.specs.List.{AllZip, fold};
 ghost use Rattle.vf_base.specs.Lists.{AllHold, has};
 ghost use Rattle.v_design.specs.Plain.{site_of};
 ghost use Rattle.trace_window.specs.Moments.{window_events};
 ghost use Rattle.slot_laws.specs.copy_skip.Limits.{AreThere, SiteIsThere};
 ghost use Rattle.slot_laws.specs.block_skip.Blocks.{AreProcesses, LeftAlone};
-ghost use Rattle.phase_faults.specs.Beside.{HasSite, IsThereIf, LooksAhead, sooner_of};
+ghost use Rattle.phase_faults.specs.Beside.{HasSite, IsThereIf, LooksAhead, sooner, stop_of};
 
 use crate::beside::FaultBeside;
 use crate::view::LockstepWindow;
 use good_trace::Setup;
 use next_touches::NextTouches;
 use slot_laws::LockstepCopy;
+use std::alloc::Global;
 use v_design::{Fault, World};
+use vf_base::NoMemory;
 
 /// The moment up to which all events from a moment on leave alone what is kept of a fault, if not the beginning of a block before; at most the end of the phase.
 fn untouched_until<N: World>(
@@ -97,29 +99,42 @@ pub fn look_ahead_all<N: World>(
     }
 }
 
-/// The sooner one of a moment and the one of a fault that still goes.
-fn sooner(least: u32, each: &FaultBeside) -> u32
-    ensures { result ≡ sooner_of least each.now }
+/// The stop of a fault in a phase that ends with a moment; one that goes no longer has none before the end.
+pub fn stop_of(each: &FaultBeside, end: u32) -> u32
+    ensures { result ≡ stop_of end each.now }
 {
     let goes = each.goes;
     let until = each.until;
     if !goes {
-        return least;
+        return end;
     }
-    if until < least {
-        return until;
-    }
-    least
+    until
 }
 
-/// The least moment, at most the end of the phase, up to which events leave alone what is kept of each fault that still goes.
-pub fn least_until(faults: &[FaultBeside], end: u32) -> u32
-    ensures { result ≡ fold sooner_of end faults.now }
+/// The stops of some faults, one after the other: what is looked for in all of them at each block stands close together so.
+///
+/// # Errors
+///
+/// Want of memory.
+pub fn stops_of(alloc: Global, faults: &[FaultBeside], end: u32) -> Result<Vec<u32>, NoMemory>
+    ensures { IfOk result (λ stops. stops.items ≡ map (stop_of end) faults.now) }
+{
+    let mut stops = Vec::with_capacity(alloc, faults.len())?;
+    'faults: for each in faults {
+        let stop = stop_of(each, end);
+        stops.push(stop)?;
+    }
+    Ok(stops)
+}
+
+/// The least of some stops, at most the end of the phase.
+pub fn least_stop(stops: &[u32], end: u32) -> u32
+    ensures { result ≡ fold sooner end stops.now }
 {
     let mut least = end;
-    'faults: for each in faults {
-        let next = sooner(least, each);
-        least = next;
+    'stops: for stop in stops {
+        let next = *stop;
+        least = next.min(least);
     }
     least
 }

@@ -17,8 +17,8 @@ use Rattle.copy_lockstep.specs.phase_faults.Beside.{HasSite, ticked_of}
 use Rattle.copy_lockstep.specs.phase_faults.declared.beside.FaultBeside.{FaultBeside}
 use Rattle.copy_lockstep.specs.lockstep_slot.Beside.{BeginsSlotIf, ComesThroughSlot}
 use Rattle.copy_lockstep.specs.Entered.{EntersSlot}
-use Rattle.window_faults.specs.declared.at.FaultAt.{FaultAt}
-use Rattle.window_faults.proofs.Lists.{all-at, sum-none, zip-back, zip-length}
+use Rattle.copy_lockstep.specs.window_faults.declared.at.FaultAt.{FaultAt}
+use Rattle.copy_lockstep.proofs.window_faults.Lists.{all-at, sum-none, zip-back, zip-length}
 use Rattle.shard_slots.specs.Slots.{Enters, HaveEntered, HaveGone, TookOwn, WentThrough, goes_beside}
 
 -- a place of a list has an element

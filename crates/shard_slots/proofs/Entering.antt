@@ -16,9 +16,9 @@ use Rattle.copy_lockstep.specs.lockstep_slot.Beside.{BeginsSlot}
 use Rattle.copy_lockstep.specs.Entered.{EntersSlot, EntersWith, HasEnded, IsPassed}
 use Rattle.copy_lockstep.specs.declared.entered.Entering.{Entering}
 use Rattle.copy_lockstep.specs.declared.reached.Reached.{Reached}
-use Rattle.window_faults.specs.Within.{IsWithin}
-use Rattle.window_faults.specs.declared.at.FaultAt.{FaultAt}
-use Rattle.window_faults.proofs.Within.{ended-later, within-there}
+use Rattle.copy_lockstep.specs.window_faults.Within.{IsWithin}
+use Rattle.copy_lockstep.specs.window_faults.declared.at.FaultAt.{FaultAt}
+use Rattle.copy_lockstep.proofs.window_faults.Within.{ended-later, within-there}
 use Rattle.shard_slots.specs.Slots.{Enters}
 
 module _ (design : FlatDesign) (plan : TestPlan) (before through slot : ℕ) where

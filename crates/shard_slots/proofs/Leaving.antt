@@ -10,12 +10,12 @@ use Rattle.own_gradings.specs.Laws.{OwnStepsRise}
 use Rattle.own_gradings.specs.Numbers.{OwnStepsOf}
 use Rattle.copy_lockstep.specs.graded_steps.Behind.{RisesWithin}
 use Rattle.copy_lockstep.specs.copy_window.ShardFaults.{SameFault, kept_by}
-use Rattle.window_beside.specs.Tried.{MayTry}
+use Rattle.copy_lockstep.specs.window_beside.Tried.{MayTry}
 use Rattle.copy_lockstep.specs.copy_window.declared.fault.ShardFault.{ShardFault}
 use Rattle.copy_lockstep.specs.phase_faults.declared.beside.FaultBeside.{FaultBeside}
 use Rattle.copy_lockstep.specs.Steps.{SlotsTakeOwn}
-use Rattle.window_faults.specs.Steps.{steps_of_fault}
-use Rattle.window_faults.specs.declared.at.FaultAt.{FaultAt}
+use Rattle.copy_lockstep.specs.window_faults.Steps.{steps_of_fault}
+use Rattle.copy_lockstep.specs.window_faults.declared.at.FaultAt.{FaultAt}
 use Rattle.shard_slots.specs.Slots.{TookOwn, WentThrough}
 use Rattle.shard_slots.proofs.Numbers.{counter-rises, steps-rise}
 

@@ -2,7 +2,7 @@
 use Rattle.std.proofs.Common.{◌≡◌, ℕ, ◌+◌, ◌<◌, ◌≤◌, List, [], ◌∷◌, ◌++◌, length, set, sym, subst, ◌∙◌, arith, inl, inr}
 use Rattle.std.specs.Prelude.{Some, slice_get}
 use Rattle.std.proofs.lemmas.Bool.{cases_lt}
-use Rattle.window_faults.proofs.Lists.{at-push, at-set}
+use Rattle.copy_lockstep.proofs.window_faults.Lists.{at-push, at-set}
 
 -- three lists go together: of the first so many places it is said so, of the others what was known before
 module _ {A B C : Type 0} (P : A → B → Type 0) (R : A → B → C → Type 0) where

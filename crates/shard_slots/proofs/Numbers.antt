@@ -12,7 +12,7 @@ use Rattle.own_gradings.specs.Laws.{OwnStepsRise}
 use Rattle.own_gradings.specs.Numbers.{OwnStepsOf}
 use Rattle.copy_lockstep.specs.copy_window.ShardFaults.{IsShardFault, SameFault, kept_by}
 use Rattle.copy_lockstep.specs.copy_window.declared.fault.ShardFault.{ShardFault}
-use Rattle.window_faults.specs.Steps.{StaysFault, steps_of_fault, steps_of_faults}
+use Rattle.copy_lockstep.specs.window_faults.Steps.{StaysFault, steps_of_fault, steps_of_faults}
 
 module _ {design : FlatDesign} {plan : TestPlan} (tally : OwnStepsOf design plan) where
   -- they are of the fault, however far it has come

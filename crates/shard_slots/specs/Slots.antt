@@ -13,8 +13,8 @@ use Rattle.good_runs.specs.declared.tried.TriedStep.{TriedStep}
 use Rattle.copy_lockstep.specs.phase_faults.declared.beside.FaultBeside.{FaultBeside}
 use Rattle.copy_lockstep.specs.lockstep_slot.Beside.{BeginsSlot}
 use Rattle.copy_lockstep.specs.Entered.{EntersSlot}
-use Rattle.window_faults.specs.Within.{IsWithin}
-use Rattle.window_faults.specs.declared.at.FaultAt.{FaultAt}
+use Rattle.copy_lockstep.specs.window_faults.Within.{IsWithin}
+use Rattle.copy_lockstep.specs.window_faults.declared.at.FaultAt.{FaultAt}
 
 -- whether a fault goes in a slot in lockstep
 abbrev pub goes_beside : FaultBeside → Bool

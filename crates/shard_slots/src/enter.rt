@@ -5,18 +5,18 @@ ghost use Rattle.std.specs.List.{AllZip};
 ghost use Rattle.v_design.specs.Plain.{fault_of};
 ghost use Rattle.copy_laws.specs.Windows.{good_slots};
 ghost use Rattle.copy_lockstep.specs.copy_window.ShardFaults.{SameFault};
-ghost use Rattle.window_faults.specs.Steps.{StaysFault};
-ghost use Rattle.window_faults.specs.Within.{AreWithin, IsWithin};
+ghost use Rattle.copy_lockstep.specs.window_faults.Steps.{StaysFault};
+ghost use Rattle.copy_lockstep.specs.window_faults.Within.{AreWithin, IsWithin};
 ghost use Rattle.shard_slots.specs.Slots.{Enters, HaveEntered};
 
 use copy_lockstep::{
-    Entered, Entering, FaultBeside, LockstepWindow, Reached, ShardFault, enter, rests,
+    Entered, Entering, FaultAt, FaultBeside, LockstepWindow, Reached, ShardFault, enter,
+    listed_fault, rests,
 };
 use good_trace::Setup;
 use std::alloc::Global;
 use v_design::{Fault, World};
 use vf_base::NoMemory;
-use window_faults::{FaultAt, listed_fault};
 
 /// A fault before a slot to which it has come: it is passed over the slot and further ones, its grading ends, or it enters the slot in lockstep, if it may.
 fn enter_open<N: World>(

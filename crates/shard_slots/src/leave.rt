@@ -7,20 +7,20 @@ ghost use Rattle.own_gradings.specs.Numbers.{RisesOwn};
 ghost use Rattle.copy_lockstep.specs.window_strobes.Passed.{HasPassed};
 ghost use Rattle.copy_lockstep.specs.window_strobes.Strobes.{AreStrobesOf, passed_behind};
 ghost use Rattle.copy_lockstep.specs.phase_faults.Beside.{ticked_of};
-ghost use Rattle.window_faults.specs.Steps.{StaysFault, steps_of_fault, steps_of_faults};
-ghost use Rattle.window_faults.specs.Within.{AreWithin, IsWithin};
+ghost use Rattle.copy_lockstep.specs.window_faults.Steps.{StaysFault, steps_of_fault, steps_of_faults};
+ghost use Rattle.copy_lockstep.specs.window_faults.Within.{AreWithin, IsWithin};
 ghost use Rattle.shard_slots.specs.Slots.{HaveGone, WentThrough};
 
 use causal_monitor::SlotLog;
 use copy_lockstep::{
-    FaultBeside, FaultInSlot, Machine, ShardFault, WindowStrobes, leave_slot, slots_take_own,
+    FaultAt, FaultBeside, FaultInSlot, Machine, ShardFault, WindowStrobes, comes_to, leave_slot,
+    run_whole, slots_take_own,
 };
 use good_trace::{Setup, TraceWindow};
 use std::alloc::Global;
 use std::sync::ledger::Ledger;
 use v_design::World;
 use vf_base::{NoMemory, Steps};
-use window_faults::{FaultAt, comes_to, run_whole};
 
 /// A fault behind a slot: it went through it in lockstep, or it is run whole through it, if it hasn't passed it.
 fn leave_one<N: World, L: Ledger>(

@@ -11,7 +11,8 @@ mod leave;
 mod room;
 mod slots;
 
-pub use copy_lockstep::{ShardFault, WindowStrobes, begin_fault, empty_log, new_fault, strobes_of};
+pub use copy_lockstep::{
+    ShardFault, WindowStrobes, begin_fault, empty_log, listed_fault, new_fault, strobes_of,
+};
 pub use room::SlotRoom;
 pub use slots::go_through_window;
-pub use window_faults::listed_fault;

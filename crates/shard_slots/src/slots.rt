@@ -14,8 +14,8 @@ ghost use Rattle.copy_lockstep.specs.lockstep_slot.Beside.{BeginsSlotIf, ComesTh
 ghost use Rattle.copy_lockstep.specs.phase_faults.Beside.{HasSite, ticked_of};
 ghost use Rattle.copy_lockstep.specs.slot_laws.Slots.{AreOfOneWindow};
 ghost use Rattle.copy_lockstep.specs.copy_window.ShardFaults.{IsShardFault};
-ghost use Rattle.window_faults.specs.Steps.{StaysFault, steps_of_faults};
-ghost use Rattle.window_faults.specs.Within.{AreWithin, ComesThrough};
+ghost use Rattle.copy_lockstep.specs.window_faults.Steps.{StaysFault, steps_of_faults};
+ghost use Rattle.copy_lockstep.specs.window_faults.Within.{AreWithin, ComesThrough};
 ghost use Rattle.shard_slots.specs.Slots.{goes_beside};
 
 use crate::enter::enter_each;
@@ -23,8 +23,8 @@ use crate::leave::leave_each;
 use crate::room::SlotRoom;
 use causal_monitor::SlotLog;
 use copy_lockstep::{
-    FaultBeside, LockstepRoom, LockstepWindow, Machine, NextTouches, ShardFault, WindowStrobes,
-    all_through_slot, end_of_lockstep, searches_begin,
+    FaultAt, FaultBeside, LockstepRoom, LockstepWindow, Machine, NextTouches, ShardFault,
+    WindowStrobes, all_through_slot, begin_each, end_of_lockstep, searches_begin,
 };
 use good_trace::Setup;
 use run_trace::RunWindow;
@@ -32,7 +32,6 @@ use std::alloc::Global;
 use std::sync::ledger::Ledger;
 use v_design::World;
 use vf_base::{NoMemory, Steps};
-use window_faults::{FaultAt, begin_each};
 
 /// Whether some fault goes in the slot in lockstep.
 fn some_goes(besides: &[FaultBeside]) -> bool

@@ -7,14 +7,14 @@ use Rattle.v_design.specs.Laws.{BeginsPhase}
 use Rattle.v_design.specs.Runs.{FirstSlot, first_run}
 use Rattle.v_design.specs.States.{State}
 use Rattle.between_slots.proofs.Leading.{through-get}
-use Rattle.lockstep_block.specs.block_events.declared.runner.Runner.{Runner}
+use Rattle.beside_phases.specs.block_events.declared.runner.Runner.{Runner}
 use Rattle.copy_laws.specs.Windows.{good_slots}
-use Rattle.lockstep_block.specs.moment_laws.Places.{IsAtSlot, IsShownAt}
-use Rattle.lockstep_block.specs.moment_laws.Shown.{MomentKept}
-use Rattle.lockstep_block.proofs.moment_laws.Following.{slot-order}
+use Rattle.beside_phases.specs.moment_laws.Places.{IsAtSlot, IsShownAt}
+use Rattle.beside_phases.specs.moment_laws.Shown.{MomentKept}
+use Rattle.beside_phases.proofs.moment_laws.Following.{slot-order}
 use Rattle.moments_stand.specs.Standing.{AllMayStand, MomentsStand}
-use Rattle.lockstep_block.specs.Rooms.{IsRunnerAt, MayStandThere}
-use Rattle.lockstep_block.specs.lockstep_slots.Places.{Place, first_place}
+use Rattle.beside_phases.specs.lockstep_block.Rooms.{IsRunnerAt, MayStandThere}
+use Rattle.beside_phases.specs.lockstep_slots.Places.{Place, first_place}
 use Rattle.phase_order.specs.Order.{FollowOrder, PhasesFollow}
 use Rattle.slot_laws.specs.Slots.{IsRoomAtSlot}
 

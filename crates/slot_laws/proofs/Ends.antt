@@ -1,5 +1,5 @@
 -- A slot begins, and ends.
-use Rattle.std.proofs.Common.{◌≡◌, ℕ, suc, ◌+◌, ◌<◌, ◌≤◌, ◌^◌, List, [], ◌∷◌, length, map, refl, sym, ap, subst, ◌∙◌, arith}
+use Rattle.std.proofs.Common.{◌≡◌, ℕ, suc, ◌+◌, ◌<◌, ◌≤◌, ◌^◌, List, [], ◌∷◌, length, map, refl, sym, ap, subst, ◌∙◌, inl, inr, arith}
 use Rattle.std.specs.Prelude.{Some, None, slice_get, sum_by}
 use Rattle.std.proofs.lemmas.List.{length-append}
 use Rattle.std.proofs.lemmas.List.Sums.{sum_by-append, sum_by-cons, sum_by-le-sum_by}
@@ -9,29 +9,32 @@ use Rattle.v_design.specs.Designs.{FlatDesign, Machine, StuckAt, TestPlan, good_
 use Rattle.v_design.specs.Grades.{Phase, phases}
 use Rattle.v_design.specs.PhaseLogs.{phase_race}
 use Rattle.v_design.specs.Runs.{FirstSlot, first_run, most_steps}
-use Rattle.v_design.specs.States.{State, Event, Step, LaneStep, Evaluation, NetUpdate, after}
+use Rattle.v_design.specs.States.{State, Event, Step, LaneStep, Evaluation, NetUpdate, after, start}
 use Rattle.between_slots.proofs.Leading.{through-get}
 use Rattle.between_slots.specs.Between.{slots_phases, window_phases}
 use Rattle.between_slots.specs.WindowLaws.{window_phases-more}
 use Rattle.machine_laws.specs.SlotLoop.{first_moment, steps_of}
-use Rattle.lockstep_block.specs.block_events.declared.runner.Runner.{Runner}
+use Rattle.beside_phases.specs.block_events.declared.runner.Runner.{Runner}
 use Rattle.copy_laws.specs.Differences.{Ascend}
 use Rattle.copy_laws.specs.Windows.{good_slots, window_slots}
 use Rattle.copy_state.specs.Kept.{CopyKept}
-use Rattle.lockstep_block.specs.moment_laws.Shown.{MomentKept}
-use Rattle.lockstep_block.specs.lockstep_copies.Copies.{IsCopyInLockstep, own_begins}
-use Rattle.lockstep_block.specs.lockstep_copy.Kept.{kept_by}
-use Rattle.lockstep_block.specs.lockstep_copy.Laws.{KeptEnds}
-use Rattle.lockstep_block.specs.lockstep_copy.declared.own.LockstepCopy.{LockstepCopy}
-use Rattle.lockstep_block.specs.lockstep_slots.Places.{Place, first_place, steps_left}
-use Rattle.lockstep_block.specs.lockstep_steps.Going.{IsGoing}
-use Rattle.lockstep_block.specs.lockstep_steps.Laws.{StepsGoOn}
-use Rattle.lockstep_block.specs.Blocks.{IsPhaseBeside}
+use Rattle.beside_phases.specs.moment_laws.Shown.{MomentKept}
+use Rattle.beside_phases.specs.lockstep_copies.Copies.{IsCopyInLockstep, own_begins}
+use Rattle.beside_phases.specs.lockstep_copy.Kept.{kept_by}
+use Rattle.beside_phases.specs.lockstep_copy.Laws.{KeptEnds}
+use Rattle.beside_phases.specs.lockstep_copy.declared.own.LockstepCopy.{LockstepCopy}
+use Rattle.beside_phases.specs.lockstep_slots.Kept.{LockstepKept, kept_of}
+use Rattle.beside_phases.specs.lockstep_slots.Places.{Place, first_place, steps_left}
+use Rattle.beside_phases.specs.lockstep_steps.Going.{IsGoing}
+use Rattle.beside_phases.specs.lockstep_steps.Laws.{StepsGoOn}
+use Rattle.beside_phases.specs.lockstep_block.Blocks.{IsPhaseBeside}
 use Rattle.own_slots.specs.Slots.{OwnSoFar}
 use Rattle.beside_phases.specs.Laws.{OwnStepsGoOn}
+use Rattle.start_laws.specs.Starts.{FirstSlotGoesOn}
 use Rattle.moments_stand.specs.Standing.{MomentsStand}
 use Rattle.phase_order.specs.Order.{phase_steps}
 use Rattle.race_notes.specs.Notes.{HasNoNotes, NotesKept}
+use Rattle.wait_index.specs.Waits.{WaitsAreOfBodies}
 use Rattle.trace_window.specs.Moments.{phase_seen, seen_from, slot_seen, slots_seen, window_events}
 use Rattle.slot_laws.specs.Copies.{MayBeginSlot, lockstep_differences}
 use Rattle.slot_laws.specs.Laws.{SlotsAreCounted, events_all}
@@ -111,65 +114,111 @@ slot-early moments design plan number slot end here =
 
 -- The beginning
 
-module _ (steps : StepsGoOn) (owns : OwnStepsGoOn) (design : FlatDesign) (plan : TestPlan) (fault : StuckAt) (from until number : ℕ) (copy : CopyKept) (phase : Phase) (later : List Phase)
-    (notes : NotesKept)
-    (own : LockstepCopy) (spare : ℕ) (tried : List TriedStep) (apart : List RunApart) (of : MayBeginSlot design plan fault (from + number) copy) where
-  pub slot-begins : phases (good_machine design) of.slot ≡ phase ∷ later → from + number < until → of.slot.begins.time ≤ 2 ^ 63 → own.copy.values ≡ copy.values → own.copy.updates ≡ copy.updates → own.lanes ≡ [] → (runner : Runner) (before behind : MomentKept) →
-      IsRoomIn design plan from until number (first_place phase later) runner before behind → before.moment ≡ length (window_events design plan from (from + number)) →
-      HasNoNotes before.moment notes → steps_left (first_place phase later) + spare ≤ most_steps → tried ≡ [] → apart ≡ [] →
-      SlotGoesOn design plan fault of.slot (own_begins design plan fault of.time of.slot) from until number (first_place phase later) runner before behind notes own spare tried apart
-  slot-begins are within early values updates empty runner before behind room moment none few untried together =
-      let at : before.moment ≡ length (window_events design plan from (suc of.before)) = moment ∙ ap (λ n. length (window_events design plan from n)) of.number_is in
-      let here = of.number_is in
-      let begun =
-      subst
-      (λ (o : LockstepCopy). IsGoing design plan fault of.slot (own_begins design plan fault of.time of.slot) from until (length (window_events design plan from (suc of.before)))
-      (first_place phase later) (first_moment (own_begins design plan fault of.time of.slot)) [] notes (kept_by o) spare)
-      (λ i. record {
+module _ (steps : StepsGoOn) (first : FirstSlotGoesOn) (owns : OwnStepsGoOn) (design : FlatDesign) (plan : TestPlan) (fault : StuckAt) (from until number : ℕ) (copy : CopyKept) (phase : Phase)
+    (later : List Phase) (notes : NotesKept) (own : LockstepCopy) (spare : ℕ) (tried : List TriedStep) (apart : List RunApart) (of : MayBeginSlot design plan fault (from + number) copy) where
+  -- the faulty machine's processes wait on objects of their texts there
+  begins-waits : WaitsAreOfBodies (faulty_machine design fault) of.begins
+  begins-waits = elim of.given [
+    | inl behind ↦ subst (WaitsAreOfBodies (faulty_machine design fault)) (sym behind.begins_is) (steps.waits design plan fault behind.time of.slot)
+    | inr at ↦ subst (WaitsAreOfBodies (faulty_machine design fault)) (sym at.begins_is) (first.waits design fault)
+  ]
+
+  -- with what is kept of the copy
+  copy-kept : own.copy.values ≡ copy.values → own.copy.updates ≡ copy.updates → own.lanes ≡ [] → kept_of (lockstep_differences copy) ≡ kept_by own
+  copy-kept values updates empty = λ i.
+      kept_by (record {
         copy = record { fault = own.copy.fault; values = sym values i; states = own.copy.states; updates = sym updates i };
         lanes = sym empty i;
       })
-      (steps.begins design plan fault of.before of.time from until (lockstep_differences copy) of.slot phase later notes spare of.lockstep
-      (subst (λ n. slice_get (good_slots design plan) n ≡ Some of.slot) of.number_is of.stands) of.fine are (omega (arith, here)) (omega (arith, here, within))
-      (subst (λ m. HasNoNotes m notes) at none) few) in
+
+  begins-going : phases (good_machine design) of.slot ≡ phase ∷ later → from + number < until → HasNoNotes (length (window_events design plan from (from + number))) notes →
+      steps_left (first_place phase later) + spare ≤ most_steps →
+      IsGoing design plan fault of.slot of.begins from until (length (window_events design plan from (from + number))) (first_place phase later) (first_moment of.begins) [] notes
+      (kept_of (lockstep_differences copy)) spare
+  begins-going are within none few = elim of.given [
+    | inl behind ↦
+        let here = behind.number_is in
+        subst
+        (λ (b : State). IsGoing design plan fault of.slot b from until (length (window_events design plan from (from + number))) (first_place phase later) (first_moment b) [] notes
+        (kept_of (lockstep_differences copy)) spare)
+        (sym behind.begins_is)
+        (subst
+        (λ n. IsGoing design plan fault of.slot (own_begins design plan fault behind.time of.slot) from until (length (window_events design plan from n)) (first_place phase later)
+        (first_moment (own_begins design plan fault behind.time of.slot)) [] notes (kept_of (lockstep_differences copy)) spare)
+        (sym here)
+        (steps.begins design plan fault behind.before behind.time from until (lockstep_differences copy) of.slot phase later notes spare behind.lockstep
+        (subst (λ n. slice_get (good_slots design plan) n ≡ Some of.slot) here of.stands) of.fine are (omega (arith, here)) (omega (arith, here, within))
+        (subst (λ n. HasNoNotes (length (window_events design plan from n)) notes) here none) few))
+    | inr at ↦
+        let here = at.number_is in
+        subst
+        (λ (b : State). IsGoing design plan fault of.slot b from until (length (window_events design plan from (from + number))) (first_place phase later) (first_moment b) [] notes
+        (kept_of (lockstep_differences copy)) spare)
+        (sym at.begins_is)
+        (subst
+        (λ n. IsGoing design plan fault of.slot (start (faulty_machine design fault)) from until (length (window_events design plan from n)) (first_place phase later)
+        (first_moment (start (faulty_machine design fault))) [] notes (kept_of (lockstep_differences copy)) spare)
+        (sym here)
+        (first.begins design plan fault from until (kept_of (lockstep_differences copy)) of.slot phase later notes spare at.together
+        (subst (λ n. slice_get (good_slots design plan) n ≡ Some of.slot) here of.stands) of.fine are (omega (arith, here)) (omega (arith, here, within))
+        (subst (λ n. HasNoNotes (length (window_events design plan from n)) notes) here none) few))
+  ]
+
+  pub slot-begins : phases (good_machine design) of.slot ≡ phase ∷ later → from + number < until → of.slot.begins.time ≤ 2 ^ 63 → own.copy.values ≡ copy.values →
+      own.copy.updates ≡ copy.updates → own.lanes ≡ [] → (runner : Runner) (before behind : MomentKept) → IsRoomIn design plan from until number (first_place phase later) runner before behind →
+      before.moment ≡ length (window_events design plan from (from + number)) → HasNoNotes before.moment notes → steps_left (first_place phase later) + spare ≤ most_steps → tried ≡ [] →
+      apart ≡ [] →
+      SlotGoesOn design plan fault of.slot of.begins from until number (first_place phase later) runner before behind notes own spare tried apart
+  slot-begins are within early values updates empty runner before behind room moment none few untried together =
+      let begun =
+      subst
+      (λ (k : LockstepKept). IsGoing design plan fault of.slot of.begins from until (length (window_events design plan from (from + number))) (first_place phase later)
+      (first_moment of.begins) [] notes k spare)
+      (copy-kept values updates empty) (begins-going are within (subst (λ m. HasNoNotes m notes) moment none) few) in
       let stands =
-      owns.begins design plan fault of.slot (own_begins design plan fault of.time of.slot) from until (length (window_events design plan from (suc of.before))) phase later [] notes (kept_by own)
-      spare are begun in
+      owns.begins design plan fault of.slot of.begins from until (length (window_events design plan from (from + number))) phase later [] notes (kept_by own) spare are begun in
       record {
         early = early;
         room = room;
-        waits = steps.waits design plan fault of.time of.slot;
+        waits = begins-waits;
         goes = record {
-          at = first_moment (own_begins design plan fault of.time of.slot);
+          at = first_moment of.begins;
           pairs = [];
           going =
               subst
-              (λ m. IsGoing design plan fault of.slot (own_begins design plan fault of.time of.slot) from until m (first_place phase later)
-              (first_moment (own_begins design plan fault of.time of.slot)) [] notes (kept_by own) spare) (sym at) begun;
+              (λ m. IsGoing design plan fault of.slot of.begins from until m (first_place phase later) (first_moment of.begins) [] notes (kept_by own) spare) (sym moment) begun;
           so_far =
-              subst
-              (OwnSoFar (good_machine design) (faulty_machine design fault) (phases (good_machine design) of.slot) (first_moment (own_begins design plan fault of.time of.slot))) (sym untried)
-              stands.so_far;
-          beside =
-              subst (IsPhaseBeside design fault (first_place phase later) (first_moment (own_begins design plan fault of.time of.slot))) (sym together) stands.beside;
+              subst (OwnSoFar (good_machine design) (faulty_machine design fault) (phases (good_machine design) of.slot) (first_moment of.begins)) (sym untried) stands.so_far;
+          beside = subst (IsPhaseBeside design fault (first_place phase later) (first_moment of.begins)) (sym together) stands.beside;
         };
       }
 
   -- The end
 
   pub slot-ends : KeptEnds → (place : Place) (runner : Runner) (before behind : MomentKept)
-      (on : SlotGoesOn design plan fault of.slot (own_begins design plan fault of.time of.slot) from until number place runner before behind notes own spare tried apart) → place.left ≡ [] →
-      place.later ≡ [] →
+      (on : SlotGoesOn design plan fault of.slot of.begins from until number place runner before behind notes own spare tried apart) → place.left ≡ [] → place.later ≡ [] →
       phase_race (faulty_machine design fault) on.goes.at.phase_begins on.goes.at.events ≡ None → Ascend own.copy.values → Ascend own.copy.updates →
       IsCopyInLockstep design plan fault (from + number) of.slot.begins.time (lockstep_differences own.copy)
-  slot-ends ends place runner before behind on through last clean values updates =
-      subst (λ n. IsCopyInLockstep design plan fault n of.slot.begins.time (lockstep_differences own.copy)) (sym of.number_is)
-      (steps.ends design plan fault of.before of.time from until before.moment (lockstep_differences copy) (lockstep_differences own.copy) of.slot place on.goes.at on.goes.pairs notes (kept_by own)
-      spare of.lockstep (subst (λ n. slice_get (good_slots design plan) n ≡ Some of.slot) of.number_is of.stands) of.fine on.goes.going through last clean (ends own values updates))
+  slot-ends ends place runner before behind on through last clean values updates = elim of.given [
+    | inl given ↦
+        let here = given.number_is in
+        subst (λ n. IsCopyInLockstep design plan fault n of.slot.begins.time (lockstep_differences own.copy)) (sym here)
+        (steps.ends design plan fault given.before given.time from until before.moment (lockstep_differences copy) (lockstep_differences own.copy) of.slot place on.goes.at on.goes.pairs notes
+        (kept_by own) spare given.lockstep (subst (λ n. slice_get (good_slots design plan) n ≡ Some of.slot) here of.stands) of.fine
+        (subst (λ (b : State). IsGoing design plan fault of.slot b from until before.moment place on.goes.at on.goes.pairs notes (kept_by own) spare) given.begins_is on.goes.going) through last
+        clean (ends own values updates))
+    | inr given ↦
+        let here = given.number_is in
+        subst (λ n. IsCopyInLockstep design plan fault n of.slot.begins.time (lockstep_differences own.copy)) (sym here)
+        (first.ends design plan fault from until before.moment (lockstep_differences own.copy) of.slot place on.goes.at on.goes.pairs notes (kept_by own) spare
+        (subst (λ n. slice_get (good_slots design plan) n ≡ Some of.slot) here of.stands) of.fine
+        (subst (λ (b : State). IsGoing design plan fault of.slot b from until before.moment place on.goes.at on.goes.pairs notes (kept_by own) spare) given.begins_is on.goes.going) through last
+        clean (ends own values updates))
+  ]
 
   -- where it is through
   pub slot-through : KeptEnds → (runner : Runner) (before behind : MomentKept) →
-      SlotIsThrough design plan fault of.slot (own_begins design plan fault of.time of.slot) from until number runner before behind notes own spare tried apart → Ascend own.copy.values →
-      Ascend own.copy.updates → IsCopyInLockstep design plan fault (from + number) of.slot.begins.time (lockstep_differences own.copy)
+      SlotIsThrough design plan fault of.slot of.begins from until number runner before behind notes own spare tried apart → Ascend own.copy.values → Ascend own.copy.updates →
+      IsCopyInLockstep design plan fault (from + number) of.slot.begins.time (lockstep_differences own.copy)
   slot-through ends runner before behind through values updates =
       slot-ends ends through.place runner before behind through.on through.through through.last through.clean values updates

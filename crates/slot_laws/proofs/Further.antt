@@ -6,9 +6,9 @@ use Rattle.std.proofs.lemmas.List.{append-nil, append_assoc, length-append, leng
 use Rattle.v_design.specs.Designs.{FlatDesign, Machine, TestPlan, good_machine}
 use Rattle.v_design.specs.States.{Event}
 use Rattle.phase_blocks.specs.Blocks.{BlocksJoin, IsBetweenRuns, IsWholeBlock}
-use Rattle.lockstep_block.specs.lockstep_slots.Places.{Place, state_there, behind_events}
-use Rattle.lockstep_block.specs.block_events.declared.runner.Runner.{Runner}
-use Rattle.lockstep_block.specs.moment_laws.Shown.{MomentKept}
+use Rattle.beside_phases.specs.lockstep_slots.Places.{Place, state_there, behind_events}
+use Rattle.beside_phases.specs.block_events.declared.runner.Runner.{Runner}
+use Rattle.beside_phases.specs.moment_laws.Shown.{MomentKept}
 use Rattle.slot_laws.specs.Slots.{GoesOverBlock, IsRoomIn, StopsAt, further}
 
 -- Lists

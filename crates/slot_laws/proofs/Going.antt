@@ -8,29 +8,29 @@ use Rattle.v_design.specs.PhaseLogs.{phase_race}
 use Rattle.v_design.specs.Runs.{FirstSlot}
 use Rattle.v_design.specs.States.{State}
 use Rattle.machine_laws.specs.SlotLoop.{after_events}
-use Rattle.lockstep_block.specs.block_events.declared.runner.Runner.{Runner}
+use Rattle.beside_phases.specs.block_events.declared.runner.Runner.{Runner}
 use Rattle.block_filter.specs.Blocks.{Alike}
 use Rattle.block_skip.specs.Blocks.{AreProcesses, LeftAlone}
 use Rattle.copy_laws.specs.Differences.{own_of}
-use Rattle.lockstep_block.specs.copy_skip.Limits.{AreThere}
-use Rattle.lockstep_block.specs.moment_laws.Places.{IsShownAt}
-use Rattle.lockstep_block.specs.moment_laws.Shown.{MomentKept}
-use Rattle.lockstep_block.specs.Blocks.{FaultGoes, TriedInSlot}
-use Rattle.lockstep_block.specs.lockstep_copy.Kept.{kept_by}
-use Rattle.lockstep_block.specs.lockstep_copy.declared.own.LockstepCopy.{LockstepCopy}
-use Rattle.lockstep_block.specs.lockstep_exchange.Exchange.{MakesLockstep}
-use Rattle.lockstep_block.proofs.lockstep_exchange.Fits.{object-there, process-there}
-use Rattle.lockstep_block.specs.lockstep_filter.Phases.{IsPhaseNoted}
-use Rattle.lockstep_block.specs.lockstep_notes.Notes.{marks_of}
-use Rattle.lockstep_block.specs.lockstep_places.Limits.{LimitsTell}
-use Rattle.lockstep_block.specs.lockstep_slots.Pairs.{LeavesNoConflict}
-use Rattle.lockstep_block.specs.lockstep_slots.Places.{Place, state_there}
-use Rattle.lockstep_block.specs.lockstep_steps.Going.{IsGoing}
-use Rattle.lockstep_block.specs.lockstep_steps.Laws.{StepsGoOn}
+use Rattle.beside_phases.specs.copy_skip.Limits.{AreThere}
+use Rattle.beside_phases.specs.moment_laws.Places.{IsShownAt}
+use Rattle.beside_phases.specs.moment_laws.Shown.{MomentKept}
+use Rattle.beside_phases.specs.lockstep_block.Blocks.{FaultGoes, TriedInSlot}
+use Rattle.beside_phases.specs.lockstep_copy.Kept.{kept_by}
+use Rattle.beside_phases.specs.lockstep_copy.declared.own.LockstepCopy.{LockstepCopy}
+use Rattle.beside_phases.specs.lockstep_exchange.Exchange.{MakesLockstep}
+use Rattle.beside_phases.proofs.lockstep_exchange.Fits.{object-there, process-there}
+use Rattle.beside_phases.specs.lockstep_filter.Phases.{IsPhaseNoted}
+use Rattle.beside_phases.specs.lockstep_notes.Notes.{marks_of}
+use Rattle.beside_phases.specs.lockstep_places.Limits.{LimitsTell}
+use Rattle.beside_phases.specs.lockstep_slots.Pairs.{LeavesNoConflict}
+use Rattle.beside_phases.specs.lockstep_slots.Places.{Place, state_there}
+use Rattle.beside_phases.specs.lockstep_steps.Going.{IsGoing}
+use Rattle.beside_phases.specs.lockstep_steps.Laws.{StepsGoOn}
 use Rattle.beside_phases.specs.Laws.{OwnStepsGoOn}
 use Rattle.race_notes.specs.Notes.{NotesKept}
 use Rattle.trace_window.specs.Moments.{window_events}
-use Rattle.lockstep_block.specs.window_places.Windows.{TablesLeave}
+use Rattle.beside_phases.specs.window_places.Windows.{TablesLeave}
 use Rattle.slot_laws.specs.Slots.{IsRoomIn, SlotGoesOn, StopsAt, further}
 use Rattle.good_runs.specs.declared.tried.TriedStep.{TriedStep}
 use Rattle.run_numbers.specs.declared.numbers.RunApart.{RunApart}

@@ -4,22 +4,22 @@ use Rattle.std.proofs.lemmas.List.{length-append}
 use Rattle.v_design.specs.Designs.{FlatDesign, StuckAt, TestPlan}
 use Rattle.v_design.specs.Runs.{FirstSlot}
 use Rattle.v_design.specs.States.{State, Event}
-use Rattle.lockstep_block.specs.block_events.declared.runner.Runner.{Runner}
-use Rattle.lockstep_block.specs.block_events.Runners.{IsWhole, machine_of, state_of}
-use Rattle.lockstep_block.specs.moment_laws.Passing.{PassesBlock}
-use Rattle.lockstep_block.specs.moment_laws.Places.{IsShownAt}
-use Rattle.lockstep_block.specs.moment_laws.Shown.{MomentKept}
-use Rattle.lockstep_block.specs.moment_laws.Shown as moments
-use Rattle.lockstep_block.specs.Blocks.{FaultGoes}
-use Rattle.lockstep_block.specs.Own.{MayRunOwn}
-use Rattle.lockstep_block.specs.Rooms.{IsRunnerAt}
-use Rattle.lockstep_block.specs.lockstep_copy.declared.own.LockstepCopy.{LockstepCopy}
-use Rattle.lockstep_block.specs.lockstep_room.declared.counts.Counts.{Counts}
-use Rattle.lockstep_block.specs.lockstep_room.Rooms.{AreCounts}
-use Rattle.lockstep_block.specs.lockstep_slots.Places.{Place, behind_events}
+use Rattle.beside_phases.specs.block_events.declared.runner.Runner.{Runner}
+use Rattle.beside_phases.specs.block_events.Runners.{IsWhole, machine_of, state_of}
+use Rattle.beside_phases.specs.moment_laws.Passing.{PassesBlock}
+use Rattle.beside_phases.specs.moment_laws.Places.{IsShownAt}
+use Rattle.beside_phases.specs.moment_laws.Shown.{MomentKept}
+use Rattle.beside_phases.specs.moment_laws.Shown as moments
+use Rattle.beside_phases.specs.lockstep_block.Blocks.{FaultGoes}
+use Rattle.beside_phases.specs.lockstep_block.Own.{MayRunOwn}
+use Rattle.beside_phases.specs.lockstep_block.Rooms.{IsRunnerAt}
+use Rattle.beside_phases.specs.lockstep_copy.declared.own.LockstepCopy.{LockstepCopy}
+use Rattle.beside_phases.specs.lockstep_room.declared.counts.Counts.{Counts}
+use Rattle.beside_phases.specs.lockstep_room.Rooms.{AreCounts}
+use Rattle.beside_phases.specs.lockstep_slots.Places.{Place, behind_events}
 use Rattle.race_notes.specs.Notes.{NotesKept}
 use Rattle.trace_window.specs.Moments.{window_events}
-use Rattle.lockstep_block.specs.window_places.Passing.{events_before}
+use Rattle.beside_phases.specs.window_places.Passing.{events_before}
 use Rattle.slot_laws.specs.Slots.{GoesFurther, GoesOverBlock, SlotGoesOn, further}
 use Rattle.slot_laws.proofs.Further.{further-behind, further-none}
 use Rattle.slot_laws.proofs.Rooms.{beside}

@@ -4,10 +4,10 @@ use Rattle.std.proofs.lemmas.List.{length-drop}
 use Rattle.v_design.specs.Designs.{FlatDesign, StuckAt, TestPlan}
 use Rattle.v_design.specs.Runs.{FirstSlot}
 use Rattle.v_design.specs.States.{State}
-use Rattle.lockstep_block.specs.block_events.declared.runner.Runner.{Runner}
-use Rattle.lockstep_block.specs.lockstep_copy.declared.own.LockstepCopy.{LockstepCopy}
-use Rattle.lockstep_block.specs.lockstep_slots.Places.{Place}
-use Rattle.lockstep_block.specs.moment_laws.Shown.{MomentKept}
+use Rattle.beside_phases.specs.block_events.declared.runner.Runner.{Runner}
+use Rattle.beside_phases.specs.lockstep_copy.declared.own.LockstepCopy.{LockstepCopy}
+use Rattle.beside_phases.specs.lockstep_slots.Places.{Place}
+use Rattle.beside_phases.specs.moment_laws.Shown.{MomentKept}
 use Rattle.race_notes.specs.Notes.{NotesKept}
 use Rattle.slot_laws.specs.Slots.{HasComeOn, PhaseEndsAt, SlotGoesOn, further}
 use Rattle.slot_laws.proofs.Further.{further-more, further-none}

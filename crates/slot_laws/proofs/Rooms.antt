@@ -5,15 +5,15 @@ use Rattle.v_design.specs.Runs.{happened}
 use Rattle.v_design.specs.States.{State, Event, after}
 use Rattle.between_slots.specs.Between.{window_phases}
 use Rattle.copy_laws.proofs.ReadRuns.{time-after}
-use Rattle.lockstep_block.specs.block_events.declared.runner.Runner.{Runner}
-use Rattle.lockstep_block.specs.moment_laws.Passing.{HasBlock, PassesBlock}
-use Rattle.lockstep_block.specs.moment_laws.Places.{IsInWindow, IsShownAt}
-use Rattle.lockstep_block.specs.moment_laws.Shown.{MomentKept, ShowsState}
-use Rattle.lockstep_block.specs.moment_laws.Shown as moments
-use Rattle.lockstep_block.specs.lockstep_slots.Places.{Place, state_there, behind_events}
-use Rattle.lockstep_block.specs.lockstep_room.declared.counts.Counts.{Counts}
-use Rattle.lockstep_block.specs.lockstep_room.Rooms.{AreCounts}
-use Rattle.lockstep_block.specs.Rooms.{CanFollow, IsBesideBlock, IsLockstepRoom, IsRunnerAt}
+use Rattle.beside_phases.specs.block_events.declared.runner.Runner.{Runner}
+use Rattle.beside_phases.specs.moment_laws.Passing.{HasBlock, PassesBlock}
+use Rattle.beside_phases.specs.moment_laws.Places.{IsInWindow, IsShownAt}
+use Rattle.beside_phases.specs.moment_laws.Shown.{MomentKept, ShowsState}
+use Rattle.beside_phases.specs.moment_laws.Shown as moments
+use Rattle.beside_phases.specs.lockstep_slots.Places.{Place, state_there, behind_events}
+use Rattle.beside_phases.specs.lockstep_room.declared.counts.Counts.{Counts}
+use Rattle.beside_phases.specs.lockstep_room.Rooms.{AreCounts}
+use Rattle.beside_phases.specs.lockstep_block.Rooms.{CanFollow, IsBesideBlock, IsLockstepRoom, IsRunnerAt}
 use Rattle.slot_laws.specs.Slots.{GoesOverBlock, IsRoomIn, further}
 use Rattle.slot_laws.proofs.Blocks.{same-block}
 

@@ -7,17 +7,17 @@ use Rattle.vf_base.specs.Lists.{has, joined}
 use Rattle.v_design.specs.Designs.{FlatDesign, TestPlan, Machine, good_machine}
 use Rattle.v_design.specs.States.{State, Event, after}
 use Rattle.between_slots.specs.Between.{window_phases}
-use Rattle.lockstep_block.specs.block_events.declared.runner.Runner.{Runner}
-use Rattle.lockstep_block.specs.lockstep_places.Places.{IsPlaceIn, PlacesTold}
-use Rattle.lockstep_block.proofs.moment_laws.Following.{followed}
-use Rattle.lockstep_block.specs.lockstep_slots.Places.{Place, state_there}
-use Rattle.lockstep_block.specs.moment_laws.Shown.{MomentKept}
+use Rattle.beside_phases.specs.block_events.declared.runner.Runner.{Runner}
+use Rattle.beside_phases.specs.lockstep_places.Places.{IsPlaceIn, PlacesTold}
+use Rattle.beside_phases.proofs.moment_laws.Following.{followed}
+use Rattle.beside_phases.specs.lockstep_slots.Places.{Place, state_there}
+use Rattle.beside_phases.specs.moment_laws.Shown.{MomentKept}
 use Rattle.phase_blocks.specs.Blocks.{IsBetweenRuns, PhasesEndBetweenRuns}
 use Rattle.phase_order.specs.Order.{PhasesFollow}
 use Rattle.trace_window.specs.Moments.{Seen, phase_seen, seen_from, window_events}
 use Rattle.window_blocks.specs.Blocks.{AreBlockMoments, ArePhaseEnds}
 use Rattle.window_blocks.specs.Kept.{AreBlocksOf, BlocksKept}
-use Rattle.lockstep_block.specs.window_places.Windows.{IsAtMoment}
+use Rattle.beside_phases.specs.window_places.Windows.{IsAtMoment}
 use Rattle.slot_laws.specs.Slots.{IsRoomIn, IsStop, PhaseEndsAt, StopsAt}
 
 seen-length : (machine : Machine) (state : State) (events : List Event) → length (seen_from machine state events) ≡ length events

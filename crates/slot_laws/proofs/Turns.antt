@@ -11,25 +11,25 @@ use Rattle.v_design.specs.PhaseLogs.{phase_race}
 use Rattle.v_design.specs.Runs.{FirstSlot, happened, turned_by}
 use Rattle.v_design.specs.States.{State, Event, ProcessState, TurnKind, UpdatesTurn, has_event, is_any, is_ready, process_at, some_in, turn_of, turned}
 use Rattle.machine_laws.specs.SlotLoop.{IsIdle, after_turn}
-use Rattle.lockstep_block.specs.block_events.declared.runner.Runner.{Runner}
-use Rattle.lockstep_block.specs.block_events.Runners.{IsWhole, machine_of, state_of}
+use Rattle.beside_phases.specs.block_events.declared.runner.Runner.{Runner}
+use Rattle.beside_phases.specs.block_events.Runners.{IsWhole, machine_of, state_of}
 use Rattle.copy_laws.specs.Differences.{own_of}
-use Rattle.lockstep_block.specs.moment_laws.Passing.{HasTurn, TakesTurn}
-use Rattle.lockstep_block.specs.moment_laws.Shown.{MomentKept}
-use Rattle.lockstep_block.specs.lockstep_copy.Kept.{kept_by}
-use Rattle.lockstep_block.specs.lockstep_copy.Laws.{LanesTellTurns}
-use Rattle.lockstep_block.specs.lockstep_copy.declared.own.LockstepCopy.{LockstepCopy}
+use Rattle.beside_phases.specs.moment_laws.Passing.{HasTurn, TakesTurn}
+use Rattle.beside_phases.specs.moment_laws.Shown.{MomentKept}
+use Rattle.beside_phases.specs.lockstep_copy.Kept.{kept_by}
+use Rattle.beside_phases.specs.lockstep_copy.Laws.{LanesTellTurns}
+use Rattle.beside_phases.specs.lockstep_copy.declared.own.LockstepCopy.{LockstepCopy}
 use Rattle.lockstep_index.specs.Writes.{OwnWrites, with_writes}
 use Rattle.lockstep_laws.specs.Lockstep.{due_times}
 use Rattle.lockstep_laws.specs.Turning.{turned_process}
-use Rattle.lockstep_block.specs.lockstep_slots.Kept.{LockstepKept, turned_kept, turned_writes}
-use Rattle.lockstep_block.specs.lockstep_slots.Places.{IsFineSlot, IsPlaceOf, Place, next_phase, state_there}
-use Rattle.lockstep_block.proofs.lockstep_slots.Followed.{all-passed, followed}
-use Rattle.lockstep_block.proofs.lockstep_slots.Kept.{process-turned}
-use Rattle.lockstep_block.specs.lockstep_steps.Going.{IsGoing}
-use Rattle.lockstep_block.specs.lockstep_steps.Laws.{GoesOverTurn, StepsGoOn}
+use Rattle.beside_phases.specs.lockstep_slots.Kept.{LockstepKept, turned_kept, turned_writes}
+use Rattle.beside_phases.specs.lockstep_slots.Places.{IsFineSlot, IsPlaceOf, Place, next_phase, state_there}
+use Rattle.beside_phases.proofs.lockstep_slots.Followed.{all-passed, followed}
+use Rattle.beside_phases.proofs.lockstep_slots.Kept.{process-turned}
+use Rattle.beside_phases.specs.lockstep_steps.Going.{IsGoing}
+use Rattle.beside_phases.specs.lockstep_steps.Laws.{GoesOverTurn, StepsGoOn}
 use Rattle.beside_phases.specs.Laws.{OwnStepsGoOn}
-use Rattle.lockstep_block.proofs.lockstep_steps.Events.{TurnsTo, turns-to}
+use Rattle.beside_phases.proofs.lockstep_steps.Events.{TurnsTo, turns-to}
 use Rattle.moments_stand.specs.Standing.{AllMayStand}
 use Rattle.phase_blocks.proofs.Taken.{lane-none}
 use Rattle.phase_order.specs.Order.{PhasesFollow}

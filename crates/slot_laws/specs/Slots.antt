@@ -9,21 +9,21 @@ use Rattle.v_design.specs.PhaseLogs.{phase_race}
 use Rattle.v_design.specs.Runs.{FirstSlot}
 use Rattle.v_design.specs.States.{State, Event, UpdatesTurn}
 use Rattle.copy_laws.specs.Windows.{good_slots}
-use Rattle.lockstep_block.specs.block_events.declared.runner.Runner.{Runner}
-use Rattle.lockstep_block.specs.moment_laws.Shown.{MomentKept}
-use Rattle.lockstep_block.specs.lockstep_copy.Kept.{StaysElsewhere, kept_by}
-use Rattle.lockstep_block.specs.lockstep_copy.declared.own.LockstepCopy.{LockstepCopy}
+use Rattle.beside_phases.specs.block_events.declared.runner.Runner.{Runner}
+use Rattle.beside_phases.specs.moment_laws.Shown.{MomentKept}
+use Rattle.beside_phases.specs.lockstep_copy.Kept.{StaysElsewhere, kept_by}
+use Rattle.beside_phases.specs.lockstep_copy.declared.own.LockstepCopy.{LockstepCopy}
 use Rattle.lockstep_index.specs.Writes.{OwnWrites}
-use Rattle.lockstep_block.specs.lockstep_slots.Kept.{turned_writes}
-use Rattle.lockstep_block.specs.lockstep_slots.Places.{Place, state_there, behind_events, first_place}
+use Rattle.beside_phases.specs.lockstep_slots.Kept.{turned_writes}
+use Rattle.beside_phases.specs.lockstep_slots.Places.{Place, state_there, behind_events, first_place}
 use Rattle.phase_blocks.specs.Blocks.{IsBetweenRuns, IsWholeBlock}
 use Rattle.race_notes.specs.Notes.{NotesKept}
 use Rattle.wait_index.specs.Waits.{WaitsAreOfBodies}
 use Rattle.good_trace.specs.Traces.{WindowKept}
 use Rattle.window_blocks.specs.Kept.{BlocksKept}
-use Rattle.lockstep_block.specs.window_wakes.Wakes.{WakesKept}
-use Rattle.lockstep_block.specs.Blocks.{FaultGoes}
-use Rattle.lockstep_block.specs.Rooms.{IsRoomAt}
+use Rattle.beside_phases.specs.window_wakes.Wakes.{WakesKept}
+use Rattle.beside_phases.specs.lockstep_block.Blocks.{FaultGoes}
+use Rattle.beside_phases.specs.lockstep_block.Rooms.{IsRoomAt}
 use Rattle.good_runs.specs.declared.tried.TriedStep.{TriedStep}
 use Rattle.run_numbers.specs.declared.numbers.RunApart.{RunApart}
 

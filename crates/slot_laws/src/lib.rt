@@ -9,11 +9,10 @@
 
 ghost use Rattle.slot_laws.specs.Laws.{NextBlocksAreOne, SlotsAreCounted};
 
-pub use beside_phases::own_steps_go_on;
-pub use lockstep_block::{
+pub use beside_phases::{
     FaultInSlot, FilterRoom, GoodMoment, LockstepCopy, LockstepRoom, WindowWakes, begin_slot,
-    follow_block, is_free, kept_ends, lanes_tell_turns, limits_tell, places_are_told,
-    run_own_block, stand_at, steps_go_on, turn_writes,
+    follow_block, is_free, kept_ends, lanes_tell_turns, limits_tell, own_steps_go_on,
+    places_are_told, run_own_block, stand_at, steps_go_on, turn_writes,
 };
 
 /// Of the events that a machine takes one part at most is its next block.

@@ -11,10 +11,10 @@ ghost use Rattle.copy_overlay.specs.Faulty.{faulty_values};
 ghost use Rattle.lockstep_shards.specs.window_strobes.Watched.{IsObjectOf};
 ghost use Rattle.slot_strobes.specs.Strobes.{bit_in};
 
-use copy_pass::keeps_value;
 use copy_state::FaultCopy;
 use four_value::Bit;
 use good_trace::TraceWindow;
+use lockstep_shards::keeps_value;
 use std::alloc::Global;
 use v_design::World;
 use vf_base::{NoMemory, WatchBit};

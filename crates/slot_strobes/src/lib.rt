@@ -16,10 +16,11 @@ mod seen;
 mod slot;
 
 pub use before::strobes_before;
-pub use copy_pass::{is_unseen, pass_over};
 pub use count::strobes_by;
 pub use lockstep_shards::{
-    Machine, ShardFault, WindowStrobes, gradings_take_steps, resume_fault, strobes_after,
+    Machine, ShardFault, WindowStrobes, begin_fault, copies_go_in_lockstep, empty_log, is_unseen,
+    new_fault, new_room, next_touched, pass_over, resume_fault, runs_take_steps, searches_begin,
+    shards_go_in_lockstep, strobes_after, strobes_of,
 };
 pub use seen::{Judged, Seen, judge_to, see_to};
 pub use slot::strobes_of_slot;

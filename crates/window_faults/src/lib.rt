@@ -11,4 +11,9 @@ mod whole;
 
 pub use at::{FaultAt, comes_to};
 pub use begin::{begin_each, listed_fault};
+pub use slot_strobes::{
+    Judged, Machine, ShardFault, WindowStrobes, begin_fault, copies_go_in_lockstep, empty_log,
+    is_unseen, judge_to, new_fault, new_room, next_touched, runs_take_steps, searches_begin,
+    see_to, shards_go_in_lockstep, strobes_by, strobes_of,
+};
 pub use whole::run_whole;

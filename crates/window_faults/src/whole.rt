@@ -8,7 +8,7 @@ ghost use Rattle.fault_strobes.specs.Said.{plan_by};
 ghost use Rattle.slot_strobes.specs.window_strobes.Passed.{HasPassed};
 ghost use Rattle.slot_strobes.specs.window_strobes.Strobes.{AreStrobesOf, passed_behind};
 ghost use Rattle.slot_strobes.specs.copy_window.ShardFaults.{IsShardFault, SameFault, kept_by};
-ghost use Rattle.window_beside.specs.Tried.{MayTry};
+ghost use Rattle.slot_strobes.specs.window_beside.Tried.{MayTry};
 ghost use Rattle.window_faults.specs.Within.{HasComeTo, IsWithin, StandsAfter};
 
 use crate::at::{FaultAt, comes_to, count_behind};

@@ -6,7 +6,7 @@ use Rattle.fault_strobes.specs.Said.{keeps}
 use Rattle.fault_strobes.specs.Shown.{said_of}
 use Rattle.fault_strobes.specs.declared.strobed.Strobed.{Strobed}
 use Rattle.lockstep_due.specs.copy_window.ShardFaults.{kept_by}
-use Rattle.slot_strobes.specs.Strobes.{IsGradingBehind}
+use Rattle.lockstep_due.specs.slot_strobes.Strobes.{IsGradingBehind}
 use Rattle.lockstep_due.proofs.window_strobes.Knowing.{design-rules}
 use Rattle.copy_lockstep.proofs.Slots.{at-next, come-before, earlier, grades-from, stands-before, starts-later}
 use Rattle.copy_lockstep.proofs.before.see_before.Goals as goal

@@ -7,7 +7,7 @@ use Rattle.copy_laws.specs.Windows.{good_slots}
 use Rattle.fault_strobes.specs.Said.{Judging}
 use Rattle.lockstep_due.specs.copy_window.ShardFaults.{kept_by}
 use Rattle.lockstep_due.proofs.window_strobes.Knowing.{design-rules}
-use Rattle.slot_strobes.specs.Strobes.{IsSeenTo}
+use Rattle.lockstep_due.specs.slot_strobes.Strobes.{IsSeenTo}
 use Rattle.copy_lockstep.proofs.Slots.{at-next, begins-at, enters-slot, found-before, has-ended, may-begin, may-try}
 use Rattle.copy_lockstep.proofs.Within.{processes-there}
 use Rattle.copy_lockstep.proofs.before.try_slot.Goals as goal

@@ -8,7 +8,7 @@ use Rattle.fault_strobes.specs.Shown.{said_of}
 use Rattle.lockstep_due.specs.copy_window.Copies.{differences_in}
 use Rattle.lockstep_due.proofs.window_strobes.Knowing.{design-rules}
 use Rattle.copy_lockstep.specs.Faults.{StandsAtSlot}
-use Rattle.slot_strobes.specs.Strobes.{IsSeenTo, StandsBeforeSlot}
+use Rattle.lockstep_due.specs.slot_strobes.Strobes.{IsSeenTo, StandsBeforeSlot}
 use Rattle.copy_lockstep.proofs.Slots.{at-next, found-behind, goes-on-behind, stands-behind}
 use Rattle.copy_lockstep.proofs.behind.see_behind.Goals as goal
 

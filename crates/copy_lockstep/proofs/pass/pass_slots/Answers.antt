@@ -11,7 +11,7 @@ use Rattle.copy_laws.specs.Differences.{own_of}
 use Rattle.copy_laws.specs.Windows.{good_slots}
 use Rattle.copy_state.specs.Kept.{differences_of}
 use Rattle.quiet_index.specs.PassOver.{SlotsLeaveAlone}
-use Rattle.slot_strobes.proofs.copy_pass.Left.{site-there}
+use Rattle.lockstep_due.proofs.copy_pass.Left.{site-there}
 use Rattle.lockstep_due.proofs.window_strobes.Knowing.{design-rules, plan-rules}
 use Rattle.copy_lockstep.proofs.Passing.{fewer-left, passes-over}
 use Rattle.copy_lockstep.proofs.Within.{objects-there}

@@ -6,7 +6,7 @@ use Rattle.v_design.specs.Designs.{FlatDesign}
 use Rattle.v_design.specs.PlainDesigns.{design_of}
 use Rattle.v_design.specs.RulesHold.{rules_hold}
 use Rattle.copy_state.specs.Entries.{first_from}
-use Rattle.copy_skip.specs.Entries.{next-kept}
+use Rattle.window_faults.specs.copy_skip.Entries.{next-kept}
 use Rattle.lockstep_due.proofs.Entries.{due-all, due-more, left-falls}
 use Rattle.lockstep_due.proofs.due.are_due_alike.Goals as goal
 

@@ -1,5 +1,5 @@
 -- No process, or the one.
-use Rattle.std.proofs.Common.{◌≡◌, ℕ, ◌<◌, ◌||◌, false, [], ◌∷◌, length, nat_eq, refl, sym, ap, subst, ◌∙◌}
+use Rattle.std.proofs.Common.{[], ◌∷◌, refl, sym, subst}
 use Rattle.std.specs.Prelude.{Option}
 use Rattle.vf_base.specs.Base.{process_number}
 use Rattle.vf_base.specs.Lists.{has}
@@ -8,7 +8,7 @@ use Rattle.lockstep_copy.specs.Kept.{kept_by}
 use Rattle.block_events.specs.Runners.{machine_of, state_of}
 use Rattle.lockstep_exchange.specs.Putting.{WritesArePut, found_among, lane_numbers}
 use Rattle.lockstep_exchange.proofs.Kept.{writes-there}
-use Rattle.lockstep_exchange.proofs.Puts.{has-one, writes-more, writes-none, writes-same}
+use Rattle.lockstep_exchange.proofs.Puts.{has-one, writes-more, writes-none}
 use Rattle.lockstep_exchange.proofs.put.put_lane_writes.Goals as goal
 
 pub returns-in_default-clause-machine : goal.returns-in_default-clause-machine

@@ -1,6 +1,7 @@
 -- The later moment goes ahead, the faults take their blocks, then runner and earlier moment follow.
-use Rattle.std.proofs.Common.{◌<◌, length, refl, sym, ap, subst, arith}
+use Rattle.std.proofs.Common.{◌≡◌, ◌<◌, ℕ, List, length, get_or, set, refl, sym, ap, subst, ◌∙◌, arith}
 use Rattle.std.specs.List.{sum_by}
+use Rattle.std.proofs.lemmas.List.{get_or-map, length-map, map-set}
 use Rattle.v_design.specs.Plain.{fault_of}
 use Rattle.lockstep_turn.specs.lockstep_block.Rooms.{CanFollow, IsRunnerAt, MayStandThere}
 use Rattle.lockstep_turn.specs.lockstep_room.Rooms.{AreCounts}
@@ -11,7 +12,7 @@ use Rattle.lockstep_turn.specs.moment_laws.Shown.{MomentKept}
 use Rattle.lockstep_turn.proofs.slot_laws.Own.{may-run-own}
 use Rattle.lockstep_turn.proofs.slot_laws.Rooms.{before-block, before-within, behind-block, behind-within, follows-at}
 use Rattle.lockstep_turn.proofs.slot_laws.Stops.{end-within, moments-there}
-use Rattle.lockstep_turn.specs.phase_faults.Beside.{HasSite, HaveGoneOn, PhaseGoesOnIf, TakesOwn, ticked_of}
+use Rattle.lockstep_turn.specs.phase_faults.Beside.{HasSite, HaveGoneOn, PhaseGoesOnIf, TakesOwn, stop_of, ticked_of}
 use Rattle.lockstep_turn.proofs.phase_faults.Lists.{changed-all, changed-length, changed-more, changed-none, sum-more, unchanged-holds}
 use Rattle.lockstep_turn.proofs.phase_faults.Moving.{BlockIsTaken, PhaseLaws, ahead-low, block-more, over-block, phase-laws}
 use Rattle.lockstep_turn.proofs.phase_faults.Waiting.{may-stand-at, own-again, takes-first, waits-first, waits-joined}
@@ -65,6 +66,7 @@ faults-init g c =
     record {
       changed = changed-none R c.args.faults.now.items;
       waits = waits-first design plan c.args.time room.runner room.before c.pass_block.new.self room.counts;
+      stops = c.requires.stops;
       ticks = omega arith;
     }
 
@@ -78,14 +80,42 @@ index_mut-each-requires g c =
     let same = changed-length R c.faults.place c.args.faults.now.items c.faults.faults.items c.faults.invariant.changed in
     omega (arith, c.faults-test.true, c.len-place-end.ensures, same)
 
-pub take_own-requires-clause-counts : goal.take_own-requires-clause-counts
-take_own-requires-clause-counts g c κs within =
+pub index_mut-stop-requires : goal.index_mut-stop-requires
+index_mut-stop-requires g c =
+    let design = g.N.World.design in
+    let plan = g.N.World.plan in
+    let room = c.args.room.now in
+    let window = c.args.view.now.window.now in
+    let R = TakesOwn design plan window.before window.through c.args.view.now.blocks.now.moments c.args.end room.runner room.before c.pass_block.new.self room.counts in
+    let same = changed-length R c.faults.place c.args.faults.now.items c.faults.faults.items c.faults.invariant.changed in
+    let count : length c.faults.stops.items ≡ length c.faults.faults.items = ap length c.faults.invariant.stops ∙ length-map c.faults.faults.items (stop_of c.args.end) in
+    omega (arith, c.faults-test.true, c.len-place-end.ensures, same, count)
+
+pub take_at_stop-requires-clause-stop : goal.take_at_stop-requires-clause-stop
+take_at_stop-requires-clause-stop g c κs within =
+    let design = g.N.World.design in
+    let plan = g.N.World.plan in
+    let room = c.args.room.now in
+    let window = c.args.view.now.window.now in
+    let R = TakesOwn design plan window.before window.through c.args.view.now.blocks.now.moments c.args.end room.runner room.before c.pass_block.new.self room.counts in
+    let same = changed-length R c.faults.place c.args.faults.now.items c.faults.faults.items c.faults.invariant.changed in
+    let f = stop_of c.args.end in
+    let ys = c.faults.faults.items in
+    let each = c.index_mut-each.result.now in
+    let stop = c.index_mut-stop.result.now in
+    c.index_mut-stop.ensures.value
+    ∙ ap (λ (l : List ℕ). get_or l c.faults.place stop) c.faults.invariant.stops
+    ∙ get_or-map f ys c.faults.place each stop (omega (arith, c.faults-test.true, c.len-place-end.ensures, same))
+    ∙ ap f (sym c.index_mut-each.ensures.value)
+
+pub take_at_stop-requires-clause-counts : goal.take_at_stop-requires-clause-counts
+take_at_stop-requires-clause-counts g c κs within =
     let design = g.N.World.design in
     let may = c.requires.may in
     subst (AreCounts design) (sym c.faults.invariant.waits.counts_is) may.counts_are
 
-pub take_own-requires-clause-site : goal.take_own-requires-clause-site
-take_own-requires-clause-site g c κs within =
+pub take_at_stop-requires-clause-site : goal.take_at_stop-requires-clause-site
+take_at_stop-requires-clause-site g c κs within =
     let design = g.N.World.design in
     let plan = g.N.World.plan in
     let room = c.args.room.now in
@@ -95,8 +125,8 @@ take_own-requires-clause-site g c κs within =
     unchanged-holds R (HasSite design) c.faults.place c.args.faults.now.items c.faults.faults.items c.index_mut-each.result.now c.faults.invariant.changed may.sites
     (omega (arith, c.faults-test.true, c.len-place-end.ensures)) c.index_mut-each.ensures.value
 
-pub take_own-requires-clause-stands : goal.take_own-requires-clause-stands
-take_own-requires-clause-stands g c κs within =
+pub take_at_stop-requires-clause-stands : goal.take_at_stop-requires-clause-stands
+take_at_stop-requires-clause-stands g c κs within =
     let design = g.N.World.design in
     let plan = g.N.World.plan in
     let room = c.args.room.now in
@@ -104,8 +134,8 @@ take_own-requires-clause-stands g c κs within =
     subst (MayStandThere design plan c.args.time) (sym c.faults.invariant.waits.before_is)
     (may-stand-at design plan c.args.time may.at.place room.runner room.before may.at.room.at.before_at may.time_is may.at.room.at.runs)
 
-pub take_own-requires-clause-order : goal.take_own-requires-clause-order
-take_own-requires-clause-order g c κs within =
+pub take_at_stop-requires-clause-order : goal.take_at_stop-requires-clause-order
+take_at_stop-requires-clause-order g c κs within =
     let design = g.N.World.design in
     let plan = g.N.World.plan in
     let room = c.args.room.now in
@@ -119,8 +149,8 @@ take_own-requires-clause-order g c κs within =
     let same = ap (λ (m : MomentKept). m.moment) c.faults.invariant.waits.behind_is in
     omega (arith, low, same)
 
-pub take_own-requires-clause-end : goal.take_own-requires-clause-end
-take_own-requires-clause-end g c κs within =
+pub take_at_stop-requires-clause-end : goal.take_at_stop-requires-clause-end
+take_at_stop-requires-clause-end g c κs within =
     let design = g.N.World.design in
     let plan = g.N.World.plan in
     let room = c.args.room.now in
@@ -128,8 +158,8 @@ take_own-requires-clause-end g c κs within =
     let may = c.requires.may in
     end-within c.places_are_told.ensures design plan window.before window.through may.at.number may.at.place room.runner room.before room.behind may.at.room c.args.end may.ends c.requires.more
 
-pub take_own-requires-clause-goes : goal.take_own-requires-clause-goes
-take_own-requires-clause-goes g c κs within =
+pub take_at_stop-requires-clause-goes : goal.take_at_stop-requires-clause-goes
+take_at_stop-requires-clause-goes g c κs within =
     let design = g.N.World.design in
     let plan = g.N.World.plan in
     let room = c.args.room.now in
@@ -160,19 +190,22 @@ faults-preserved g c =
     let window = c.args.view.now.window.now in
     let may = c.requires.may in
     let R = TakesOwn design plan window.before window.through c.args.view.now.blocks.now.moments c.args.end room.runner room.before c.pass_block.new.self room.counts in
-    let now = c.take_own.new.room in
+    let now = c.take_at_stop.new.room in
     record {
-      changed = changed-more R c.faults.place c.args.faults.now.items c.faults.faults.items c.index_mut-each.result.now c.take_own.new.each c.faults.invariant.changed
+      changed = changed-more R c.faults.place c.args.faults.now.items c.faults.faults.items c.index_mut-each.result.now c.take_at_stop.new.each c.faults.invariant.changed
           (omega (arith, c.faults-test.true, c.len-place-end.ensures)) c.index_mut-each.ensures.value
           (takes-first design plan c.args.time room.runner room.before c.pass_block.new.self room.counts c.faults.room.runner c.faults.room.before c.faults.room.behind c.faults.room.counts c.faults.invariant.waits
-          window.before window.through may.time_is c.args.view.now.blocks.now.moments c.args.end c.index_mut-each.result.now c.take_own.new.each c.in_ok-take_own.ensures.own);
+          window.before window.through may.time_is c.args.view.now.blocks.now.moments c.args.end c.index_mut-each.result.now c.take_at_stop.new.each c.in_ok-take_at_stop.ensures.own);
       waits =
           waits-joined design plan c.args.time room.runner room.before c.pass_block.new.self room.counts c.faults.room.runner c.faults.room.before c.faults.room.behind c.faults.room.counts c.faults.invariant.waits
-          now.runner now.before now.behind now.counts c.in_ok-take_own.ensures.room;
+          now.runner now.before now.behind now.counts c.in_ok-take_at_stop.ensures.room;
+      stops =
+          (λ i. set (c.faults.invariant.stops i) c.faults.place (c.in_ok-take_at_stop.ensures.stop i))
+          ∙ sym (map-set (stop_of c.args.end) c.faults.faults.items c.faults.place c.take_at_stop.new.each);
       ticks =
           (let same = changed-length R c.faults.place c.args.faults.now.items c.faults.faults.items c.faults.invariant.changed in
-          sum-more ticked_of c.faults.faults.items c.faults.place c.index_mut-each.result.now c.take_own.new.each (sum_by ticked_of c.args.faults.now.items) c.args.steps.now c.faults.steps
-          c.take_own.new.steps (omega (arith, c.faults-test.true, c.len-place-end.ensures, same)) c.index_mut-each.ensures.value c.faults.invariant.ticks c.in_ok-take_own.ensures.ticks);
+          sum-more ticked_of c.faults.faults.items c.faults.place c.index_mut-each.result.now c.take_at_stop.new.each (sum_by ticked_of c.args.faults.now.items) c.args.steps.now c.faults.steps
+          c.take_at_stop.new.steps (omega (arith, c.faults-test.true, c.len-place-end.ensures, same)) c.index_mut-each.ensures.value c.faults.invariant.ticks c.in_ok-take_at_stop.ensures.ticks);
     }
 
 pub follow_block-requires-clause-counts : goal.follow_block-requires-clause-counts
@@ -306,3 +339,6 @@ returns-clause-more g c =
 
 pub returns-clause-ticks : goal.returns-clause-ticks
 returns-clause-ticks g c = c.faults.invariant.ticks
+
+pub returns-clause-stops : goal.returns-clause-stops
+returns-clause-stops g c = c.faults.invariant.stops

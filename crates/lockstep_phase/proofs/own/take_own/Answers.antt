@@ -2,7 +2,7 @@
 use Rattle.std.proofs.Common.{length, refl, sym, ap, subst, ◌∙◌, arith}
 use Rattle.std.proofs.lemmas.Bool.{false≢true}
 use Rattle.v_design.specs.Plain.{fault_of}
-use Rattle.lockstep_turn.specs.slot_steps.Rises.{RisesWithin}
+use Rattle.slot_steps.specs.Rises.{RisesWithin}
 use Rattle.lockstep_turn.specs.lockstep_block.Blocks.{FaultGoes, TriedInSlot}
 use Rattle.lockstep_turn.specs.lockstep_block.Rooms.{MayStandThere}
 use Rattle.lockstep_turn.specs.lockstep_room.Rooms.{AreCounts}

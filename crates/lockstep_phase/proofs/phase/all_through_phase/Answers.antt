@@ -1,8 +1,8 @@
 -- It is looked ahead, room and faults go to the phase's end, and the filter is asked.
-use Rattle.std.proofs.Common.{◌≡◌, ℕ, ◌<◌, length, get_or, refl, ap, subst, arith}
+use Rattle.std.proofs.Common.{◌≡◌, ℕ, ◌<◌, length, get_or, map, refl, ap, subst, ◌∙◌, arith}
 use Rattle.std.specs.List.{AllZip}
 use Rattle.lockstep_turn.proofs.slot_laws.Stops.{end-within}
-use Rattle.lockstep_turn.specs.phase_faults.Beside.{LooksAhead}
+use Rattle.lockstep_turn.specs.phase_faults.Beside.{LooksAhead, stop_of}
 use Rattle.lockstep_turn.proofs.phase_faults.Through.{all-there, all-through, end-there, ends-at, may-begin, room-through, ticks-through, time-through}
 use Rattle.lockstep_phase.proofs.phase.all_through_phase.Goals as goal
 
@@ -61,6 +61,11 @@ look_ahead_all-requires-clause-end g c κs within =
     λ more.
     end-within c.places_are_told.ensures design plan window.before window.through at.number at.place room.runner room.before room.behind at.room end (ends at.number at.place at.room)
     (subst (λ m. m < end) c.moment-moment.ensures more)
+
+pub go_to_end-requires-clause-stops : goal.go_to_end-requires-clause-stops
+go_to_end-requires-clause-stops g c κs within =
+    let end : ℕ = get_or c.phase_ends-ends.result.now c.phase-phase.result 0 in
+    c.in_ok-stops.ensures ∙ ap (map (stop_of end)) c.deref.ensures.value
 
 pub go_to_end-requires-clause-may : goal.go_to_end-requires-clause-may
 go_to_end-requires-clause-may g c κs within =

@@ -13,6 +13,7 @@ moments-init g c =
     record {
       on =
           gone-nowhere design plan window.before window.through c.args.view.now.blocks.now.moments c.args.end room.runner room.before room.behind room.counts c.args.faults.now.items c.args.time may;
+      stops = c.requires.stops;
       ticks = omega arith;
     }
 
@@ -24,6 +25,9 @@ go_further-requires-clause-may g c κs within =
     let window = c.args.view.now.window.now in
     let may = c.requires.may in
     may-again design plan window.before window.through c.args.view.now.blocks.now.moments c.args.end room.runner room.before room.behind room.counts c.args.faults.now.items c.moments.room.runner c.moments.room.before c.moments.room.behind c.moments.room.counts c.moments.faults.items c.moments.invariant.on c.args.time may
+
+pub go_further-requires-clause-stops : goal.go_further-requires-clause-stops
+go_further-requires-clause-stops g c κs within = c.moments.invariant.stops
 
 pub go_further-requires-clause-more : goal.go_further-requires-clause-more
 go_further-requires-clause-more g c κs within =
@@ -43,6 +47,7 @@ moments-preserved g c =
     record {
       on =
           gone-further design plan window.before window.through c.args.view.now.blocks.now.moments c.args.end room.runner room.before room.behind room.counts c.args.faults.now.items c.moments.room.runner c.moments.room.before c.moments.room.behind c.moments.room.counts c.moments.faults.items c.moments.invariant.on new.runner new.before new.behind new.counts c.go_further.new.faults.items c.in_ok-go_further.ensures.on;
+      stops = c.in_ok-go_further.ensures.stops;
       ticks = omega (arith, so_far, rises);
     }
 

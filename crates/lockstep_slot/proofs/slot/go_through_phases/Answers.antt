@@ -24,7 +24,7 @@ phases-init g c =
     record {
       counts = c.requires.counts;
       come = first-come g.N.World.design g.N.World.plan window.before window.through c.args.slot c.args.now c.args.last c.args.faults.now.items c.requires.begins c.steps_go_on.ensures
-          c.own_steps_go_on.ensures
+          c.first_slot_goes_on.ensures c.own_steps_go_on.ensures
           c.moments_stand.ensures c.slots_are_counted.ensures (plan-early g.N.World.plan c.plan-plan.result.now c.plan-plan.ensures.world) room.runner room.before room.behind c.requires.at
           c.requires.time c.requires.last;
       ticks = omega arith;
@@ -230,7 +230,7 @@ returns-clause-faults g c =
     let few : c.args.last ≤ room.before.phase + 1 = omega (arith, test, at) in
     all-behind design plan window.before window.through c.args.slot c.args.now c.args.last c.args.faults.now.items c.requires.begins room.runner room.before room.behind c.phases.faults.items come
     through.runner through.before through.behind c.all_through_phase-2.new.faults.items c.in_ok-all_through_phase-2.ensures.room c.in_ok-all_through_phase-2.ensures.faults
-    c.steps_go_on.ensures c.own_steps_go_on.ensures
+    c.steps_go_on.ensures c.first_slot_goes_on.ensures c.own_steps_go_on.ensures
     c.kept_ends.ensures few (subst (AllHold KeepsAscending) c.deref-2.ensures.value c.ascending_each.ensures)
 
 pub returns-clause-room : goal.returns-clause-room

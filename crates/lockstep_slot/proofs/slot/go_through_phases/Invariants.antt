@@ -1,7 +1,7 @@
 -- So far room and faults have come to where a phase of the slot begins.
 use Rattle.std.proofs.Common.{◌-◌}
 use Rattle.std.specs.Prelude.{sum_by}
-use Rattle.lockstep_phase.specs.slot_steps.Rises.{RisesWithin}
+use Rattle.slot_steps.specs.Rises.{RisesWithin}
 use Rattle.lockstep_phase.specs.lockstep_room.Rooms.{AreCounts}
 use Rattle.lockstep_phase.specs.phase_faults.Beside.{ticked_of}
 use Rattle.lockstep_slot.proofs.Coming.{HaveCome}

@@ -4,12 +4,12 @@ use Rattle.std.specs.Prelude.{None, Some, slice_get}
 use Rattle.std.proofs.lemmas.List.{length-set, length_push}
 use Rattle.copy_lockstep.specs.copy_window.declared.fault.ShardFault.{ShardFault}
 use Rattle.copy_lockstep.specs.phase_faults.declared.beside.FaultBeside.{FaultBeside}
-use Rattle.window_faults.specs.Steps.{StaysFault}
-use Rattle.window_faults.specs.Within.{IsWithin}
-use Rattle.window_faults.specs.declared.at.FaultAt.{FaultAt}
-use Rattle.window_faults.proofs.Lists.{at-read, zip-length, zip-refl, zip-set}
+use Rattle.copy_lockstep.specs.window_faults.Steps.{StaysFault}
+use Rattle.copy_lockstep.specs.window_faults.Within.{IsWithin}
+use Rattle.copy_lockstep.specs.window_faults.declared.at.FaultAt.{FaultAt}
+use Rattle.copy_lockstep.proofs.window_faults.Lists.{at-read, zip-length, zip-refl, zip-set}
 use Rattle.shard_slots.proofs.Looping.{more-beside, still-behind}
-use Rattle.window_faults.proofs.Steps.{stays-on, stays-same}
+use Rattle.copy_lockstep.proofs.window_faults.Steps.{stays-on, stays-same}
 use Rattle.shard_slots.specs.Slots.{Enters}
 use Rattle.shard_slots.proofs.enter.enter_each.Goals as goal
 

@@ -4,9 +4,9 @@ use Rattle.std.specs.Prelude.{None, Some, slice_get}
 use Rattle.std.specs.List.{AllZip}
 use Rattle.copy_lockstep.specs.copy_window.declared.fault.ShardFault.{ShardFault}
 use Rattle.copy_lockstep.specs.phase_faults.declared.beside.FaultBeside.{FaultBeside}
-use Rattle.window_faults.specs.Steps.{StaysFault}
-use Rattle.window_faults.specs.Within.{IsWithin}
-use Rattle.window_faults.specs.declared.at.FaultAt.{FaultAt}
+use Rattle.copy_lockstep.specs.window_faults.Steps.{StaysFault}
+use Rattle.copy_lockstep.specs.window_faults.Within.{IsWithin}
+use Rattle.copy_lockstep.specs.window_faults.declared.at.FaultAt.{FaultAt}
 use Rattle.shard_slots.specs.Slots.{Enters}
 use Rattle.shard_slots.proofs.enter.enter_each.Given as goal
 

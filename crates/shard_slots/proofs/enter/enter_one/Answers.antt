@@ -3,8 +3,8 @@ use Rattle.std.proofs.Common.{◌≡◌, ℕ, ◌+◌, sym, ap, subst, ◌∙◌
 use Rattle.std.specs.Prelude.{Some}
 use Rattle.v_design.specs.Plain.{fault_of}
 use Rattle.v_design.specs.declared.plan.Fault.{Fault}
-use Rattle.window_faults.proofs.Steps.{stays-open, stays-same}
-use Rattle.window_faults.proofs.Within.{is-listed, none-end}
+use Rattle.copy_lockstep.proofs.window_faults.Steps.{stays-open, stays-same}
+use Rattle.copy_lockstep.proofs.window_faults.Within.{is-listed, none-end}
 use Rattle.shard_slots.specs.Slots.{Enters}
 use Rattle.shard_slots.proofs.Entering.{rests-there}
 use Rattle.shard_slots.proofs.enter.enter_one.Goals as goal

@@ -7,7 +7,7 @@ use Rattle.copy_lockstep.proofs.window_strobes.Knowing.{design-rules}
 use Rattle.copy_lockstep.specs.copy_window.declared.fault.ShardFault.{ShardFault}
 use Rattle.copy_lockstep.specs.Entered.{HasEntered}
 use Rattle.copy_lockstep.specs.declared.entered.Entered.{Entered}
-use Rattle.window_faults.specs.Within.{IsWithin}
+use Rattle.copy_lockstep.specs.window_faults.Within.{IsWithin}
 use Rattle.shard_slots.specs.Slots.{Enters}
 use Rattle.shard_slots.proofs.Entering.{ended-there, enters-there, passed-there, rests-there}
 use Rattle.shard_slots.proofs.enter.enter_open.Goals as goal

@@ -4,15 +4,15 @@ use Rattle.std.specs.Prelude.{None, Some, slice_get, sum_by}
 use Rattle.std.proofs.lemmas.List.{length-set, length_push}
 use Rattle.std.proofs.lemmas.Option.{slice_get_within}
 use Rattle.copy_lockstep.specs.copy_window.declared.fault.ShardFault.{ShardFault}
-use Rattle.window_faults.specs.Steps.{StaysFault, steps_of_fault, steps_of_faults}
-use Rattle.window_faults.specs.Within.{IsWithin}
-use Rattle.window_faults.specs.declared.at.FaultAt.{FaultAt}
+use Rattle.copy_lockstep.specs.window_faults.Steps.{StaysFault, steps_of_fault, steps_of_faults}
+use Rattle.copy_lockstep.specs.window_faults.Within.{IsWithin}
+use Rattle.copy_lockstep.specs.window_faults.declared.at.FaultAt.{FaultAt}
 use Rattle.shard_slots.specs.Slots.{WentThrough}
 use Rattle.copy_lockstep.specs.phase_faults.Beside.{ticked_of}
 use Rattle.copy_lockstep.specs.phase_faults.declared.beside.FaultBeside.{FaultBeside}
-use Rattle.window_faults.proofs.Lists.{at-front, at-last, at-read, mixed, mixed-all, mixed-less, mixed-none, none-popped, sum-empty, sum-push, zip-length, zip-refl, zip-set}
+use Rattle.copy_lockstep.proofs.window_faults.Lists.{at-front, at-last, at-read, mixed, mixed-all, mixed-less, mixed-none, none-popped, sum-empty, sum-push, zip-length, zip-refl, zip-set}
 use Rattle.shard_slots.proofs.Looping.{from-there, still-before}
-use Rattle.window_faults.proofs.Steps.{stays-on, stays-same}
+use Rattle.copy_lockstep.proofs.window_faults.Steps.{stays-on, stays-same}
 use Rattle.shard_slots.proofs.Leaving.{RisesSoFar, one-more}
 use Rattle.shard_slots.proofs.leave.leave_each.Goals as goal
 

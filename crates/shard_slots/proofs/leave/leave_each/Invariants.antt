@@ -7,10 +7,10 @@ use Rattle.copy_lockstep.specs.copy_room.Rooms.{IsRoom}
 use Rattle.copy_lockstep.specs.phase_faults.Beside.{ticked_of}
 use Rattle.copy_lockstep.specs.copy_window.declared.fault.ShardFault.{ShardFault}
 use Rattle.copy_lockstep.specs.phase_faults.declared.beside.FaultBeside.{FaultBeside}
-use Rattle.window_faults.specs.Steps.{StaysFault, steps_of_fault, steps_of_faults}
-use Rattle.window_faults.specs.Within.{IsWithin}
-use Rattle.window_faults.specs.declared.at.FaultAt.{FaultAt}
-use Rattle.window_faults.proofs.Lists.{mixed}
+use Rattle.copy_lockstep.specs.window_faults.Steps.{StaysFault, steps_of_fault, steps_of_faults}
+use Rattle.copy_lockstep.specs.window_faults.Within.{IsWithin}
+use Rattle.copy_lockstep.specs.window_faults.declared.at.FaultAt.{FaultAt}
+use Rattle.copy_lockstep.proofs.window_faults.Lists.{mixed}
 use Rattle.shard_slots.specs.Slots.{WentThrough}
 use Rattle.shard_slots.proofs.Leaving.{RisesSoFar}
 use Rattle.shard_slots.proofs.leave.leave_each.Given as goal

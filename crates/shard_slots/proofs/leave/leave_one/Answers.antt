@@ -6,10 +6,10 @@ use Rattle.v_design.specs.Plain.{fault_of}
 use Rattle.copy_laws.specs.Windows.{RiseAtMostOwn}
 use Rattle.fault_strobes.specs.Said.{plan_by}
 use Rattle.copy_lockstep.specs.copy_window.ShardFaults.{kept_by}
-use Rattle.window_beside.specs.Tried.{MayTry}
+use Rattle.copy_lockstep.specs.window_beside.Tried.{MayTry}
 use Rattle.good_runs.specs.declared.tried.TriedStep.{TriedStep}
-use Rattle.window_faults.proofs.Steps.{stays-open, stays-same}
-use Rattle.window_faults.proofs.Within.{has-come, none-end, within-there}
+use Rattle.copy_lockstep.proofs.window_faults.Steps.{stays-open, stays-same}
+use Rattle.copy_lockstep.proofs.window_faults.Within.{has-come, none-end, within-there}
 use Rattle.shard_slots.proofs.Leaving.{may-try, none-tried, rests-within, through-within, whole-within}
 use Rattle.shard_slots.proofs.leave.leave_one.Goals as goal
 

@@ -1,8 +1,8 @@
 -- In, through and out.
 use Rattle.std.proofs.Common.{◌+◌, arith}
-use Rattle.window_faults.specs.Steps.{StaysFault, steps_of_faults}
-use Rattle.window_faults.proofs.Lists.{zip-join}
-use Rattle.window_faults.proofs.Steps.{stays-on}
+use Rattle.copy_lockstep.specs.window_faults.Steps.{StaysFault, steps_of_faults}
+use Rattle.copy_lockstep.proofs.window_faults.Lists.{zip-join}
+use Rattle.copy_lockstep.proofs.window_faults.Steps.{stays-on}
 use Rattle.shard_slots.proofs.Leaving.{slot-rises}
 use Rattle.shard_slots.proofs.Numbers.{same-all}
 use Rattle.shard_slots.proofs.Beside.{begin-each, have-gone, none-ticked, sites}

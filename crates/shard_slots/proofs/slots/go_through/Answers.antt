@@ -3,10 +3,10 @@ use Rattle.std.proofs.Common.{◌≡◌, ℕ, ◌+◌, ap, subst, arith}
 use Rattle.copy_lockstep.specs.graded_steps.Behind.{RisesWithin}
 use Rattle.copy_lockstep.proofs.window_strobes.Knowing.{design-rules}
 use Rattle.copy_lockstep.specs.window_strobes.Strobes.{passed_behind}
-use Rattle.window_faults.specs.Steps.{StaysFault, steps_of_faults}
-use Rattle.window_faults.proofs.Lists.{zip-join}
-use Rattle.window_faults.proofs.Steps.{stays-on}
-use Rattle.window_faults.proofs.Within.{are-within-all}
+use Rattle.copy_lockstep.specs.window_faults.Steps.{StaysFault, steps_of_faults}
+use Rattle.copy_lockstep.proofs.window_faults.Lists.{zip-join}
+use Rattle.copy_lockstep.proofs.window_faults.Steps.{stays-on}
+use Rattle.copy_lockstep.proofs.window_faults.Within.{are-within-all}
 use Rattle.shard_slots.proofs.Numbers.{same-all}
 use Rattle.shard_slots.proofs.slots.go_through.Goals as goal
 

@@ -5,8 +5,8 @@ use Rattle.own_gradings.specs.Numbers.{OwnStepsOf}
 use Rattle.copy_lockstep.specs.copy_room.Rooms.{IsRoom}
 use Rattle.copy_lockstep.specs.graded_steps.Behind.{RisesWithin}
 use Rattle.copy_lockstep.specs.lockstep_block.Rooms.{IsLockstepRoom}
-use Rattle.window_faults.specs.Steps.{StaysFault, steps_of_faults}
-use Rattle.window_faults.specs.Within.{AreWithin}
+use Rattle.copy_lockstep.specs.window_faults.Steps.{StaysFault, steps_of_faults}
+use Rattle.copy_lockstep.specs.window_faults.Within.{AreWithin}
 use Rattle.shard_slots.proofs.slots.go_through.Given as goal
 
 abbrev pub invariant-slots : goal.invariant-slots

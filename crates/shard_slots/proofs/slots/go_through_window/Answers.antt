@@ -9,8 +9,8 @@ use Rattle.copy_lockstep.specs.graded_steps.Behind.{RisesWithin}
 use Rattle.copy_lockstep.specs.window_strobes.Passed.{HasPassed}
 use Rattle.copy_lockstep.specs.window_strobes.Strobes.{AreStrobesOf, passed_behind}
 use Rattle.copy_lockstep.specs.copy_window.ShardFaults.{IsShardFault}
-use Rattle.window_faults.specs.Steps.{steps_of_faults}
-use Rattle.window_faults.specs.Within.{ComesThrough}
+use Rattle.copy_lockstep.specs.window_faults.Steps.{steps_of_faults}
+use Rattle.copy_lockstep.specs.window_faults.Within.{ComesThrough}
 use Rattle.shard_slots.proofs.slots.go_through_window.Goals as goal
 
 pub go_through-requires-clause-some : goal.go_through-requires-clause-some

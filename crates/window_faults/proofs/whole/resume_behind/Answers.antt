@@ -5,7 +5,7 @@ use Rattle.v_design.specs.Plain.{fault_of}
 use Rattle.slot_strobes.specs.copy_window.Passing.{CanResume}
 use Rattle.copy_laws.specs.Windows.{RiseAtMostOwn}
 use Rattle.fault_strobes.specs.Said.{plan_by}
-use Rattle.window_beside.specs.Tried.{MayTry}
+use Rattle.slot_strobes.specs.window_beside.Tried.{MayTry}
 use Rattle.slot_strobes.specs.copy_window.ShardFaults.{IsShardFault, kept_by}
 use Rattle.slot_strobes.specs.window_strobes.Strobes.{AreStrobesOf, passed_behind}
 use Rattle.window_faults.specs.Within.{StandsAfter}

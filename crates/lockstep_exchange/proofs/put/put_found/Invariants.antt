@@ -9,7 +9,7 @@ use Rattle.block_events.specs.Runners.{IsWhole, machine_of, state_of}
 use Rattle.lockstep_exchange.specs.Putting.{ValuesArePut}
 use Rattle.lockstep_exchange.proofs.Entries.{held_number}
 use Rattle.lockstep_exchange.proofs.Puts.{below, left_of}
-use Rattle.lockstep_exchange.proofs.put.put_values.Given as goal
+use Rattle.lockstep_exchange.proofs.put.put_found.Given as goal
 
 abbrev pub invariant-objects : goal.invariant-objects
 invariant-objects l = record {

@@ -8,7 +8,7 @@ use Rattle.copy_skip.specs.Limits.{AreLeftAlone}
 use Rattle.trace_window.specs.Moments.{window_events}
 use Rattle.next_touches.specs.Touches.{AreLeftBy}
 use Rattle.next_touches.proofs.Kept.{numbers_left}
-use Rattle.next_touches.proofs.limits.values_limit.Given as goal
+use Rattle.next_touches.proofs.limits.found_limit.Given as goal
 
 abbrev pub invariant-objects : goal.invariant-objects
 invariant-objects g l = record {
