@@ -1,5 +1,5 @@
 -- A copy of a shard stands as the shard does (slots by IEEE 1364-2001, clause 5).
-use Rattle.std.proofs.Common.{◌≡◌, ℕ, ◌+◌, ◌<◌, Bool, true, false, not, ◌||◌, List, [], ◌∷◌, ◌++◌, length, map, get_or, take, refl, ap, sym, subst, ◌∙◌}
+use Rattle.std.proofs.Common.{◌≡◌, ℕ, zero, suc, ◌+◌, ◌<◌, Bool, true, false, not, ◌||◌, List, [], ◌∷◌, ◌++◌, length, map, get_or, take, refl, ap, sym, subst, ◌∙◌, arith}
 use Rattle.std.specs.Prelude.{Option, Some, None, is_some, option_map, slice_get}
 use Rattle.std.specs.List.{AllZip, list_any, cons_option}
 use Rattle.std.proofs.lemmas.List.Elements.{all_zip_more}
@@ -171,6 +171,11 @@ steps-same design plan tally old new same =
     ∙ same-sums tally old.gone old.faults new.faults (places-same old.faults new.faults same.faults)
 
 -- One fault more
+
+pub held-at : {A : Type 0} (P : A → Type 0) (xs : List A) (i : ℕ) (x : A) → AllHold P xs → i < length xs → x ≡ get_or xs i x → P x
+held-at P [] i x all low is = absurd (omega (arith, low))
+held-at P (y ∷ ys) zero x all low is = subst P (sym is) all.0
+held-at P (y ∷ ys) (suc i) x all low is = held-at P ys i x all.1 (omega (arith, low)) is
 
 pub copied-more : (faults copies : List ShardFault) (i : ℕ) (own copy : ShardFault) → i < length faults → own ≡ get_or faults i own → AllZip IsCopied (take i faults) copies → IsCopied own copy →
     AllZip IsCopied (take (i + 1) faults) (copies ++ copy ∷ [])

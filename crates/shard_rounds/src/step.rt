@@ -161,9 +161,7 @@ fn run_round<N: World, R: Threads + Sync, G: Gate + Sync, L: Ledger + Send + Syn
         backups: &backups,
     };
     let mut seat = Some(first);
-    let (next, last) = go_round(
-        rt, alloc, &round, workers, &mut seat, ahead, own, steps,
-    )?;
+    let (next, last) = go_round(rt, alloc, &round, workers, &mut seat, ahead, own, steps)?;
     backups.end(alloc, last)?;
     Ok(next)
 }

@@ -22,11 +22,7 @@ use verdict_words::{Seat, Taken};
 use vf_base::{Gate, NoMemory, Steps};
 
 /// Whether a shard that lay in a slot has the faults of the slot's number, and stands before the round's window.
-fn stands_before<N: World, G>(
-    round: &Round<'_, '_, N, G>,
-    number: u32,
-    copy: &Shard<N>,
-) -> bool
+fn stands_before<N: World, G>(round: &Round<'_, '_, N, G>, number: u32, copy: &Shard<N>) -> bool
     requires { number < shard_count (length (representatives_of round.now.shards.now)) }
     ensures { IsTrue result ↔ StandsBefore (representatives_of round.now.shards.now) round.now.window.now.before number copy.now }
 {

@@ -11,7 +11,9 @@ use vf_base::Gate;
 /// 65 registers' bits, of which one is watched: 130 faults in five shards, none of which is through with the first of two windows.
 const DESIGN: &[u8] =
     b"module top;\nreg [63:0] u = 0; reg clk = 0;\nalways #5 clk = ~clk;\nendmodule\n";
+
 const PLAN: &[u8] = b"end 400\nwatch clk\nstrobe 3\nfaults all\n";
+
 const LAST: &[u8] = b"total 130 detected 1 possible 0 undetected 129 race 0 hyper 0\n";
 
 /// A gate that notes the worker of each shard's first turn as its owner, and is met once a later turn of a shard comes from another worker. The first later turn that comes from an
