@@ -70,7 +70,8 @@ fn open_backups<N: World, G>(
     ensures { IfOk result (BackedUp place.now.shards.now (length workers.now)) }
 {
     let (backups, seat) = Backups::<N>::new(alloc, place.shards.count())?;
-    if workers.len() < 2 {
+    let count = workers.len();
+    if count < 2 {
         return Ok((backups, seat));
     }
     let seat = leave_copies(alloc, &backups, seat, workers)?;

@@ -6,6 +6,9 @@ use Rattle.shard_claims.proofs.Claiming.{has-gone, stands-claimed}
 use Rattle.shard_claims.proofs.Ticks.{dry-rises, new-rises}
 use Rattle.shard_claims.proofs.worker.work_own.Goals as goal
 
+pub take_turns-requires-clause-own : goal.take_turns-requires-clause-own
+take_turns-requires-clause-own g c κs within = c.requires.fresh.own
+
 pub take_turns-requires-clause-each : goal.take_turns-requires-clause-each
 take_turns-requires-clause-each g c κs within =
     (has-claimed (representatives_of c.args.round.now.shards.now) c.args.round.now.board.now c.args.round.now.window.now.before c.args.seated.worker c.if-dry.true c.requires.at).keeps.each
