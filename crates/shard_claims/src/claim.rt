@@ -7,8 +7,8 @@ ghost use Rattle.fault_shards.specs.Cuts.{shard, shard_count};
 ghost use Rattle.fault_shards.specs.Shards.{representatives_of};
 ghost use Rattle.shard_claims.specs.Workers.{IsPlaceOf, IsNewSeat, HasClaimed, claimed_steps};
 
-use crate::round::Round;
 use copy_shard::{ClaimedShard, Shard, ShardRoom};
+use shard_turns::Round;
 use std::alloc::Global;
 use std::sync::ledger::Ledger;
 use v_design::World;

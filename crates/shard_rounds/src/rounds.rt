@@ -72,9 +72,10 @@ fn go_rounds<N: World, R: Threads + Sync, G: Gate + Sync, L: Ledger + Send + Syn
 ) -> Result<Through<N>, NoMemory>
     requires place { IsPlaceOf N.design N.plan place.now.shards.now place.now.board.now }
     requires before { IsBeforeRound N.design N.plan (representatives_of place.now.shards.now) place.now.board.now (length steps.old) ahead.old.run rounds }
+    requires counters { (1 ≤ length steps.old) × (length steps.old ≤ 64) }
     requires one { length own.old ≡ 1 }
     ensures done { IfOk result (AreDone N.design N.plan (representatives_of place.now.shards.now) place.now.board.now (length steps.old)) }
-    ensures ticks { IfOk result (AllTicks N.design N.plan rounds.workers.items (sum steps.old) (sum steps.new)) }
+    ensures ticks { IfOk result (AllTicks N.design N.plan (representatives_of place.now.shards.now) rounds.window.before rounds.workers.items (sum steps.old) (sum steps.new)) }
     ensures good { IfOk result (λ _. RisesWithin (steps_of_slots N.design N.plan ahead.old.run.ran) (good_steps N.design N.plan) (sum own.old) (sum own.new)) }
 {
     let mut rounds = rounds;
@@ -105,8 +106,9 @@ fn grade_run<N: World, R: Threads + Sync, G: Gate + Sync, L: Ledger + Send + Syn
     requires counters { (1 ≤ length steps.old) × (length steps.old ≤ 64) }
     requires one { length own.old ≡ 1 }
     ensures outcome { IfOk result (IsOutcome N.design N.plan (representatives_of place.now.shards.now) place.now.board.now) }
-    ensures ticks { IfOk result (OutcomeTicks N.design N.plan (sum own.old + sum steps.old) (sum own.new + sum steps.new)) }
+    ensures ticks { IfOk result (OutcomeTicks N.design N.plan (representatives_of place.now.shards.now) (sum own.old + sum steps.old) (sum own.new + sum steps.new)) }
 {
+    own_gradings::own_steps_rise();
     let count = steps.len() as u32;
     let window = match first_window(place.setup, ahead, own)? {
         First::Window(window) => window,
@@ -145,7 +147,7 @@ pub fn grade_rounds<N: World, R: Threads + Sync, G: Gate + Sync, L: Ledger + Sen
     requires counters { (1 ≤ length steps.old) × (length steps.old ≤ 64) }
     requires one { length own.old ≡ 1 }
     ensures outcome { IfOk result (IsOutcome N.design N.plan (representatives_of place.now.shards.now) place.now.board.now) }
-    ensures ticks { IfOk result (OutcomeTicks N.design N.plan (sum own.old + sum steps.old) (sum own.new + sum steps.new)) }
+    ensures ticks { IfOk result (OutcomeTicks N.design N.plan (representatives_of place.now.shards.now) (sum own.old + sum steps.old) (sum own.new + sum steps.new)) }
 {
     let run = GoodRun::new(alloc, place.setup)?;
     let mut ahead = Ahead { run, used: None };

@@ -1,11 +1,12 @@
 // Grading by workers over one board.
 
-ghost use Rattle.std.specs.Prelude.{◌≡◌, ◌+◌, ◌<◌, ◌≤◌, ◌^◌, ℕ, length, sum, IfOk};
+ghost use Rattle.std.specs.Prelude.{◌≡◌, ◌+◌, ◌<◌, ◌≤◌, ◌^◌, ℕ, length, sum, sum_by, IfOk};
 ghost use Rattle.v_design.specs.PlainDesigns.{design_of, plan_of};
 ghost use Rattle.v_design.specs.WellFormed.{IsPlanOf, KeepsRules};
 ghost use Rattle.shard_rounds.specs.fault_grade.Results.{LoopsAt};
 ghost use Rattle.fault_shards.specs.Shards.{representatives_of};
 ghost use Rattle.shard_rounds.specs.shard_claims.Workers.{IsPlaceOf};
+ghost use Rattle.shard_rounds.specs.copy_shard.Shards.{fault_steps_at};
 ghost use Rattle.shard_rounds.specs.shard_crew.Crews.{claimed_most, HasGathered};
 ghost use Rattle.shard_workers.specs.Closings.{IsWork, IsAllGraded, GradedTicks};
 ghost use Rattle.own_gradings.specs.Numbers.{OwnStepsOf};
@@ -52,6 +53,7 @@ fn close_work<N: World>(
     requires goes_on { (time : ℕ) → LoopsAt N.design N.plan time → ⊥ }
     ensures work { IfOk result (IsWork N.design N.plan) }
     ensures steps { IfOk result (λ work. (tally : OwnStepsOf N.design N.plan) → claimed_most tally gathered.shards.items ≡ work_steps tally work.shards.items) }
+    ensures all { IfOk result (λ work. (tally : OwnStepsOf N.design N.plan) → work_steps tally work.shards.items ≡ sum_by (fault_steps_at tally) (representatives_of shards.now)) }
 {
     fault_shards::shards_cover();
     let Gathered {
@@ -108,8 +110,8 @@ fn work_all<N: World, R: Threads + Sync, G: Gate + Sync, L: Ledger + Send + Sync
 /// Grades all listed faults of the world's plan by so many workers, each a thread with a counter of its own; the first counter is the calling thread's.
 ///
 /// Which worker grades which fault, and in what order, depends on the schedule; what is answered doesn't. Where no thread can be started the calling
-/// thread does the work. Where all faults are graded, all counters together rise by no more than the process steps of the good first run and the own steps of each fault
-/// that stands for its class; where the good machine loops, or memory is wanting, nothing is said of them.
+/// thread does the work. Where all faults are graded, all counters together rise by no more than the process steps of the good first run and twice the own steps of
+/// each fault that stands for its class, since a worker that is through with its own shards may run copies of others; where the good machine loops, or memory is wanting, nothing is said of them.
 ///
 /// # Errors
 ///

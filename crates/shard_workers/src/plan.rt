@@ -59,7 +59,7 @@ fn grade_world<N: World, R: Threads + Sync, G: Gate + Sync, L: Ledger + Send + S
 /// The findings on all listed faults of a plan, or the time at which the good machine loops, by so many workers.
 ///
 /// The first counter is the calling thread's, and each worker has one of those behind it. Where all faults are graded, all counters together rise by no more than the
-/// process steps of the good first run and the own steps of each fault that stands for its class.
+/// process steps of the good first run and twice the own steps of each fault that stands for its class.
 ///
 /// # Errors
 ///
