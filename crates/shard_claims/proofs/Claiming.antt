@@ -5,13 +5,13 @@ use Rattle.std.proofs.lemmas.List.{map-append}
 use Rattle.std.proofs.lemmas.List.Elements.{All-nil, All-same, All-weaker, All-push, All-contains_itself}
 use Rattle.std.proofs.lemmas.Option.{slice_get_within}
 use Rattle.v_design.specs.Designs.{FlatDesign, StuckAt}
-use Rattle.copy_shard.specs.Shards.{places_of, fresh_fault}
+use Rattle.shard_turns.specs.copy_shard.Shards.{places_of, fresh_fault}
 use Rattle.fault_shards.specs.Cuts.{shard, ShardsCover}
 use Rattle.fault_shards.specs.Representatives.{AreRepresentatives}
 use Rattle.verdict_words.specs.Seats.{view}
 use Rattle.verdict_words.specs.declared.board.Board.{Board}
 use Rattle.verdict_words.specs.declared.view.View.{View}
-use Rattle.copy_shard.specs.declared.together.ClaimedShard.{ClaimedShard}
+use Rattle.shard_turns.specs.copy_shard.declared.together.ClaimedShard.{ClaimedShard}
 use Rattle.shard_claims.specs.declared.worker.Worker.{Worker}
 use Rattle.shard_turns.specs.Visits.{MovesListed, SettlesMore}
 use Rattle.vf_base.specs.Base.{fault_number}

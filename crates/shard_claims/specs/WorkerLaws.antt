@@ -4,7 +4,7 @@ use Rattle.std.proofs.lemmas.List.{map-append}
 use Rattle.std.proofs.lemmas.List.Elements.{All-append}
 use Rattle.verdict_words.specs.declared.board.Board.{Board}
 use Rattle.verdict_words.specs.declared.view.View.{View}
-use Rattle.copy_shard.specs.declared.together.ClaimedShard.{ClaimedShard}
+use Rattle.shard_turns.specs.copy_shard.declared.together.ClaimedShard.{ClaimedShard}
 use Rattle.shard_claims.specs.declared.worker.Worker.{Worker}
 use Rattle.shard_claims.specs.Workers.{numbers_of, IsClaimed, KeepsShards, IsNewSeat, HasClaimed, StandsBy, IsWorkerAt}
 

@@ -3,7 +3,7 @@ use Rattle.std.specs.Prelude.{◌≡◌, ℕ, ◌+◌, Bool, true, false, IsTrue
 use Rattle.std.specs.List.{All}
 use Rattle.v_design.specs.Designs.{FlatDesign, TestPlan}
 use Rattle.own_gradings.specs.Numbers.{OwnStepsOf, RisesOwn}
-pub use Rattle.copy_shard.specs.Together.{claimed_steps}
+pub use Rattle.shard_turns.specs.copy_shard.Together.{claimed_steps}
 pub use Rattle.shard_turns.specs.Backups.{AddUp, HasVisited, IsBackupSeat, IsFreshBackup, StaysSeat, visited_by, visits_in}
 pub use Rattle.shard_turns.specs.Claims.{AreBackupsOf, IsClaimed, IsPlaceOf, numbers_of}
 pub use Rattle.shard_turns.specs.Visits.{MovesListed, faults_steps, visit_steps}
@@ -12,7 +12,7 @@ use Rattle.verdict_words.specs.Views.{lent_share}
 use Rattle.verdict_words.specs.declared.board.Board.{Board}
 use Rattle.verdict_words.specs.declared.board.Seat.{Seat}
 use Rattle.verdict_words.specs.declared.view.View.{View}
-use Rattle.copy_shard.specs.declared.together.ClaimedShard.{ClaimedShard}
+use Rattle.shard_turns.specs.copy_shard.declared.together.ClaimedShard.{ClaimedShard}
 use Rattle.shard_claims.specs.declared.worker.Seated.{Seated}
 use Rattle.shard_claims.specs.declared.worker.Worker.{Worker}
 

@@ -10,6 +10,5 @@
 mod claim;
 mod worker;
 
-pub use copy_shard::{ClaimedShard, Shard};
-pub use shard_turns::{BackupSeat, Backups, Round};
+pub use shard_turns::{BackupSeat, Backups, ClaimedShard, Round, Shard};
 pub use worker::{Seated, Worker, work};

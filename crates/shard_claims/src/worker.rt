@@ -6,8 +6,7 @@ ghost use Rattle.own_gradings.specs.Numbers.{OwnStepsOf, RisesOwn};
 ghost use Rattle.shard_claims.specs.Workers.{AreBackupsOf, HasVisited, IsFreshBackup, IsPlaceOf, IsWorkerAt, RoseInRound, StaysSeat, visit_steps, visited_by, worker_steps};
 
 use crate::claim::claim_all;
-use copy_shard::{ClaimedShard, ShardRoom};
-use shard_turns::{BackupSeat, Round, take_turns, visit_slots};
+use shard_turns::{BackupSeat, ClaimedShard, Round, ShardRoom, take_turns, visit_slots};
 use std::alloc::Global;
 use std::sync::ledger::Ledger;
 use v_design::World;

@@ -5,4 +5,3 @@ pub use Rattle.shard_crew.proofs as shard_crew
 pub use Rattle.shard_crew.proofs.shard_claims as shard_claims
 pub use Rattle.shard_crew.proofs.copy_shard as copy_shard
 pub use Rattle.shard_crew.proofs.fault_grade as fault_grade
-pub use Rattle.shard_crew.proofs.shard_turns as shard_turns

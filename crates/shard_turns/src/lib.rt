@@ -19,6 +19,7 @@ mod turns;
 mod visits;
 
 pub use backups::{BackupSeat, Backups};
+pub use copy_shard::{ClaimedShard, Shard, ShardRoom};
 pub use round::Round;
 pub use turn::shard_turn;
 pub use turns::take_turns;
