@@ -2,8 +2,9 @@
 //! one (slots by IEEE 1364-2001, clause 5).
 //!
 //! `hire` splits a seat off a board's first seat for each worker. `leave_copies` leaves a copy of each worker's shards that go on in the slots of a round. `crew` takes all workers
-//! through the round, each in a thread of its own: its main contract is that all of them come back behind the round's window, and that together they have visited all slots. Behind the last round `finish` has the words of each worker's findings settled by its own seat, and joins the seats: the
-//! seat that is left has the whole share, each fault of each shard that it claimed was found, with its grade, and had its word seen.
+//! through the round, each in a thread of its own: its main contract is that all of them come back behind the round's window, and that together they have visited all slots.
+//! Behind the last round `finish` has the words of each worker's findings settled by its own seat, and joins the seats: the seat that is left
+//! has the whole share, each fault of each shard that it claimed was found, with its grade, and had its word seen.
 #![tactic(auto)]
 
 mod findings;
