@@ -39,8 +39,8 @@ enter_first_each-besides-requires-clause-good g c κs within =
     (design-rules g.N.World.design c.design-design.result.now c.design-design.ensures.world) c.view_of-view.result.window.now.before c.view_of-view.result.window.now.through c.go_to.new.self
     (ap (λ (w : WindowKept). w.before) c.view_of-view.ensures.window ∙ c.requires.first) c.in_ok-go_to.ensures
 
-pub enter_first_each-besides-requires-clause-start : goal.enter_first_each-besides-requires-clause-start
-enter_first_each-besides-requires-clause-start g c κs within = c.room.invariant.2
+pub enter_first_each-besides-requires-clause-room : goal.enter_first_each-besides-requires-clause-room
+enter_first_each-besides-requires-clause-room g c κs within = c.room.invariant.2
 
 pub enter_first_each-besides-requires-clause-faults : goal.enter_first_each-besides-requires-clause-faults
 enter_first_each-besides-requires-clause-faults g c κs within =
@@ -111,7 +111,7 @@ leave_each-requires-clause-gone g c κs within =
     c.in_ok-go_beside.ensures.besides
 
 pub invariant_of-result : goal.invariant_of-result
-invariant_of-result g c = (c.in_ok-leave_each.ensures.room, c.in_ok-go_beside.ensures.lockstep, c.in_ok-besides.ensures.start)
+invariant_of-result g c = (c.in_ok-leave_each.ensures.room, c.in_ok-go_beside.ensures.lockstep, c.in_ok-besides.ensures.room)
 
 pub returns-clause-faults : goal.returns-clause-faults
 returns-clause-faults g c =
