@@ -1,4 +1,4 @@
--- Draft: goals' names unchecked.
+-- What starts in lockstep may begin the first slot.
 use Rattle.std.proofs.Common.{◌≡◌, ◌+◌, ℕ, sym, ap, subst, ◌∙◌, arith}
 use Rattle.std.specs.Prelude.{Contains, Some}
 use Rattle.v_design.specs.Designs.{FlatDesign, StuckAt, good_machine}
@@ -32,11 +32,11 @@ start_copy-requires-clause-room g c = subst (λ (d : FlatDesign). IsRoomFor d c.
 pub start_copy-requires-clause-empty : goal.start_copy-requires-clause-empty
 start_copy-requires-clause-empty g c = ap (λ (k : CopyKept). k.values) c.new-copy.ensures
 
-pub enter_slot-found-requires-clause-slot : goal.enter_slot-found-requires-clause-slot
-enter_slot-found-requires-clause-slot g c κs within = omega (arith, c.requires.first, c.requires.slot)
+pub enter_slot-requires-clause-slot : goal.enter_slot-requires-clause-slot
+enter_slot-requires-clause-slot g c κs within = omega (arith, c.requires.first, c.requires.slot)
 
-pub enter_slot-found-requires-clause-copy : goal.enter_slot-found-requires-clause-copy
-enter_slot-found-requires-clause-copy g c κs within =
+pub enter_slot-requires-clause-copy : goal.enter_slot-requires-clause-copy
+enter_slot-requires-clause-copy g c κs within =
     let design = g.N.World.design in
     let rules = design-rules design c.design-design.result.now c.design-design.ensures.world in
     let fault = fault_of c.listed_fault-fault.result in
@@ -57,8 +57,8 @@ returns-in-None-clause-enters g c = record {
 pub returns-in-None-clause-room : goal.returns-in-None-clause-room
 returns-in-None-clause-room g c = subst (λ (d : FlatDesign). IsRoomFor d c.start_copy.new.room) c.requires.room.belongs c.in_ok-start_copy.ensures.room
 
-pub returns-in-Some-clause-enters : goal.returns-in-Some-clause-enters
-returns-in-Some-clause-enters g c =
+pub returns-clause-enters : goal.returns-clause-enters
+returns-clause-enters g c =
     let begins = c.in_ok-found.ensures.begins c.in-Some.one c.in-Some.is in
     let rest = c.in_ok-found.ensures.rest c.in-Some.one c.in-Some.is in
     let kept : c.start_copy.new.copy.fault ≡ c.new-copy.result.fault = ap (λ (k : CopyKept). k.fault) c.in_ok-start_copy.ensures.keeps.rest in
@@ -70,5 +70,5 @@ returns-in-Some-clause-enters g c =
       begins = λ goes. subst (λ (n : ℕ). BeginsSlot g.N.World.design g.N.World.plan (fault_of c.listed_fault-fault.result) n c.args.view.now.window.now.through 0 c.in-Some.one) c.requires.first begins;
     }
 
-pub returns-in-Some-clause-room : goal.returns-in-Some-clause-room
-returns-in-Some-clause-room g c = subst (λ (d : FlatDesign). IsRoomFor d c.start_copy.new.room) c.requires.room.belongs c.in_ok-start_copy.ensures.room
+pub returns-clause-room : goal.returns-clause-room
+returns-clause-room g c = subst (λ (d : FlatDesign). IsRoomFor d c.start_copy.new.room) c.requires.room.belongs c.in_ok-start_copy.ensures.room
