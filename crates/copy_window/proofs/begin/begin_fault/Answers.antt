@@ -1,5 +1,5 @@
 -- From the start of the faulty machine.
-use Rattle.std.proofs.Common.{◌≡◌, ℕ, ◌+◌, ◌≤◌, Bool, length, refl, sym, ap, subst, ◌∙◌, arith}
+use Rattle.std.proofs.Common.{◌≡◌, ℕ, ◌+◌, ◌≤◌, Bool, length, sym, ap, subst, ◌∙◌, arith}
 use Rattle.std.specs.Prelude.{Some, slice_get, sum}
 use Rattle.v_design.specs.Designs.{FlatDesign, TestPlan, faulty_machine}
 use Rattle.v_design.specs.Runs.{FirstSlot}
