@@ -75,7 +75,8 @@ pub fn crew<N: World, R: Threads + Sync, G: Gate + Sync, L: Ledger + Send + Sync
             worker,
             backup: all,
         });
-        let Seated { worker, backup } = work_alone(alloc, round, &mut first, mine)?;
+        let alone = work_alone(alloc, round, &mut first, mine)?;
+        let Seated { worker, backup } = alone;
         workers.push(worker)?;
         return Ok(backup);
     }
@@ -109,8 +110,9 @@ pub fn crew<N: World, R: Threads + Sync, G: Gate + Sync, L: Ledger + Send + Sync
                 workers.entry.now.items workers.exit.now.items after others.entry.now others.exit.now) }
         { crew(rt, theirs, round, workers, &mut left, others) },
     );
-    let Seated { worker, backup } = a?;
+    let came = a?;
     let rest = b?;
+    let Seated { worker, backup } = came;
     workers.push(worker)?;
     Ok(round.backups.join(rest, backup))
 }
