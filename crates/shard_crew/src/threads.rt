@@ -28,7 +28,8 @@ fn work_alone<N: World, G: Gate, L: Ledger>(
     requires one { length mine.old ≡ 1 }
     ensures through { IfOk result (λ after. IsWorkerAt (representatives_of round.now.shards.now) round.now.board.now round.now.window.now.through after.worker) }
     ensures visited { IfOk result (λ after. (one : Seated N) → seated.old ≡ Some one → HasVisited round.now.backups.now one.backup after.backup) }
-    ensures ticks { IfOk result (λ after. WorkerRose N.design N.plan (representatives_of round.now.shards.now) round.now.window.now.before round.now.window.now.through seated.old after mine.old mine.new) }
+    ensures ticks { IfOk result (λ after. WorkerRose N.design N.plan (representatives_of round.now.shards.now) round.now.window.now.before round.now.window.now.through
+        seated.old after mine.old mine.new) }
 {
     let Some(one) = seated.take() else {
         unreachable!();
