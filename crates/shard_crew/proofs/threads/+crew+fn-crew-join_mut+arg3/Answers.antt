@@ -1,7 +1,7 @@
 -- All workers come back.
 use Rattle.std.proofs.Common.{◌≡◌, ◌+◌, ◌*◌, ◌<◌, ◌++◌, ◌∷◌, [], length, refl, sym, ap, subst, ◌∙◌, arith, rules}
 use Rattle.fault_shards.specs.Shards.{representatives_of}
-use Rattle.std.specs.Prelude.{sum, Some, IsSomeAnd}
+use Rattle.std.specs.Prelude.{sum, Some}
 use Rattle.verdict_words.specs.declared.view.View.{View}
 use Rattle.shard_claims.specs.Workers.{HasVisited, IsWorkerAt, visit_steps, visited_by}
 use Rattle.shard_claims.specs.declared.worker.Seated.{Seated}
