@@ -1,5 +1,5 @@
 -- A fault that is judged has no samples.
-use Rattle.std.proofs.Common.{◌≡◌, true, false, ap, sym, ◌∙◌}
+use Rattle.std.proofs.Common.{ap, sym, ◌∙◌}
 use Rattle.std.proofs.lemmas.Bool.{true≢false}
 use Rattle.fault_strobes.specs.Said.{keeps}
 use Rattle.fault_strobes.specs.Shown.{said_of}
