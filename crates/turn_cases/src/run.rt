@@ -121,8 +121,9 @@ fn append_turns<N: World, L: Ledger>(
     let mut alike = Alike::default();
     let mut shards = 0u32;
     let mut found = 0usize;
-    'shards: for first in (0..count).step_by(SHARD) {
-        let last = count.min(first.saturating_add(SHARD));
+    'shards: for number in 0..(count + 31) / SHARD {
+        let first = number * SHARD;
+        let last = count.min(first + SHARD);
         let more = found_in(alloc, setup, first, last, &mut alike, steps)?;
         shards = shards.saturating_add(1);
         found = found.saturating_add(more);
@@ -154,7 +155,7 @@ fn world_text<N: World, L: Ledger>(
     let mut out = String::new(alloc);
     let graph = Graph::new(alloc, design)?;
     let setup = Setup::<N>::new(alloc, design, &graph, plan)?;
-    let count = plan.faults.as_slice().len();
+    let count = plan.faults.as_slice().len().min(u32::MAX as usize);
     append_turns(alloc, &setup, count, steps, &mut out)?;
     Ok(out)
 }

@@ -98,7 +98,12 @@ pub(crate) fn take_turns<'d, N: World, L: Ledger>(
     requires { window.now.before ≡ own.gone }
     ensures { IfOk result (λ behind. behind.gone ≡ window.now.through) }
 {
-    let objects = setup.design().objects.as_slice().len() as u32;
+    let objects = setup
+        .design()
+        .objects
+        .as_slice()
+        .len()
+        .min(u32::MAX as usize) as u32;
     let done = advanced(alloc, setup, window, room, &own, steps)?;
     let wanted = done.copy(alloc)?;
     let older = own.copy(alloc)?;
