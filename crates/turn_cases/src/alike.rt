@@ -7,6 +7,11 @@ use std::alloc::Global;
 use v_design::World;
 use vf_base::{FaultId, NoMemory, ObjectId};
 
+/// Whether two values are the same, also in their widths.
+fn same_value(one: Vec4, other: Vec4) -> bool {
+    one.width() == other.width() && one.same(other)
+}
+
 /// Whether the values of two copies are the same: they have own values of as many objects, and each object has the same one. Where an object has none, this value stands for it.
 fn same_values(one: &FaultCopy, other: &FaultCopy, objects: u32, none: Vec4) -> bool {
     if one.size() != other.size() {
@@ -14,7 +19,7 @@ fn same_values(one: &FaultCopy, other: &FaultCopy, objects: u32, none: Vec4) -> 
     }
     'objects: for number in 0..objects {
         let object = ObjectId(number);
-        if !one.value(object, none).same(other.value(object, none)) {
+        if !same_value(one.value(object, none), other.value(object, none)) {
             return false;
         }
     }
