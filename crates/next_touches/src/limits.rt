@@ -21,7 +21,26 @@ use good_trace::{Setup, TraceWindow};
 use v_design::{Fault, World};
 use vf_base::{ObjectId, ProcId};
 
-/// A moment up to which all events of a window from another on leave an object alone; it is remembered.
+/// A moment up to which all events of a window from another on leave an object alone, as a search finds it; it is remembered.
+#[inline(never)]
+fn found_until<N: World>(
+    setup: &Setup<'_, N>,
+    window: &TraceWindow<N>,
+    objects: &mut Vec<Stretch>,
+    object: ObjectId,
+    first: u32,
+) -> u32
+    requires there { object_number object < length N.design.objects }
+    requires known { AreLeftBy N.design (window_events N.design N.plan window.now.before window.now.through) objects.old.items }
+    ensures alone { IsLeftAlone N.design (window_events N.design N.plan window.now.before window.now.through) (object_number object) first result }
+    ensures known { AreLeftBy N.design (window_events N.design N.plan window.now.before window.now.through) objects.new.items }
+{
+    let until = object_limit(setup, window, object, first);
+    objects[object.0 as usize] = Stretch { from: first, until };
+    until
+}
+
+/// The same moment, which is searched for where it isn't remembered.
 // The loops over what is kept call it for each value, and most are remembered.
 #[inline(always)]
 fn object_until<N: World>(
@@ -36,14 +55,11 @@ fn object_until<N: World>(
     ensures alone { IsLeftAlone N.design (window_events N.design N.plan window.now.before window.now.through) (object_number object) first result }
     ensures known { AreLeftBy N.design (window_events N.design N.plan window.now.before window.now.through) objects.new.items }
 {
-    let place = object.0 as usize;
-    let known = objects[place];
+    let known = objects[object.0 as usize];
     if has_moment(known, first) {
         return known.until;
     }
-    let until = object_limit(setup, window, object, first);
-    objects[place] = Stretch { from: first, until };
-    until
+    found_until(setup, window, objects, object, first)
 }
 
 /// The limit, or a lesser moment, before which all events from a first one on leave all objects alone of which a value is listed.

@@ -1,5 +1,5 @@
 -- What all workers have between rounds and behind the last one, and the seat that is left beside theirs (slots by IEEE 1364-2001, clause 5).
-use Rattle.std.specs.Prelude.{◌≡◌, ℕ, ◌+◌, ◌*◌, ◌^◌, ◌<◌, ◌≤◌, IsTrue, List, [], length, sum, sum_by, Option, Some, None}
+use Rattle.std.specs.Prelude.{◌≡◌, ℕ, ◌+◌, ◌*◌, ◌^◌, ◌<◌, ◌≤◌, IsTrue, List, [], length, map, sum, sum_by, Option, Some, None}
 use Rattle.std.specs.List.{All, flat_map}
 use Rattle.copy_laws.specs.Windows.{good_slots}
 use Rattle.shard_claims.specs.copy_shard.Shards.{fault_steps_at, places_of, findings_of}
@@ -39,6 +39,10 @@ module _ {N : Type 0} where
   claimed_most tally shards = sum_by (λ (claimed : ClaimedShard N). sum_by (fault_steps_at tally) (places_of claimed.shard.faults)) shards
 
   -- Workers
+
+  -- their numbers, by which the gate is told of them
+  abbrev pub worker_numbers : List (Worker N) → List ℕ
+  worker_numbers workers = map (λ (worker : Worker N). worker.number) workers
 
   -- the own steps of the faults of their shards
   abbrev pub crew_steps : {design : FlatDesign} {plan : TestPlan} → OwnStepsOf design plan → List (Worker N) → ℕ

@@ -95,11 +95,6 @@ module _ {N : Type 0} where
       CrewTicks design plan representatives from (length (good_slots design plan)) workers gone.items before after
   AllTicks design plan representatives from workers before after (ends.Loops time) = Unit {0}
 
-  -- the first window, behind which so many slots were run
-  abbrev pub FirstTicks : FlatDesign → TestPlan → ℕ → ℕ → ℕ → First N → Type 0
-  FirstTicks design plan ran before after (first.Window window) = after ≤ before + steps_of_slots design plan ran
-  FirstTicks design plan ran before after (first.Loops time) = Unit {0}
-
   -- behind all rounds
   abbrev pub AreDone : FlatDesign → TestPlan → List ℕ → Board N → ℕ → Through N → Type 0
   AreDone design plan representatives board count (ends.All workers) = AreThrough design plan representatives board count workers.items

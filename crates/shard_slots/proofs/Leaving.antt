@@ -42,6 +42,13 @@ module _ (law : OwnStepsRise) (design : FlatDesign) (plan : TestPlan) (rules : K
       let later = steps-rise law design plan rules tally (before + slot) (before + (slot + 1)) (omega arith) (before + at.slot) at.passed own went.within.stands in
       omega (arith, later, none)
 
+  -- it took no fewer in the first slot than those that it took itself
+  first-rises : SlotsTakeOwn → TookOwn design plan (fault_of beside.fault) (before + slot) own at beside.one.tried.items → before + slot ≡ 0 → (counter : ℕ) →
+      RiseAtMostOwn design (plan_by (kept_by own) plan) 0 1 (fault_of beside.fault ∷ []) counter (counter + length beside.one.tried.items)
+  first-rises took some first counter =
+      let begun = begun-first design plan (fault_of beside.fault) (before + slot) some.copy beside.one.tried.items first some.may some.in_slot in
+      took.first design plan (fault_of beside.fault) (kept_by own) some.copy beside.one.tried.items counter begun.0 begun.1
+
   -- one of which nothing was found so far, and which stands behind the slot now: its own steps there are no fewer than those that it took itself
   pub through-within : SlotsTakeOwn → (tally : OwnStepsOf design plan) (new : ShardFault) (counter : ℕ) → SameFault own new →
       RisesWithin (steps_of_fault tally (before + slot) own) (steps_of_fault tally (before + (slot + 1)) new) counter (counter + length beside.one.tried.items)
@@ -61,15 +68,8 @@ module _ (law : OwnStepsRise) (design : FlatDesign) (plan : TestPlan) (rules : K
                 let one : 1 ≡ before + (slot + 1) = omega (arith, first) in
                 subst (λ (n : ℕ). RiseAtMostOwn design (plan_by (kept_by own) plan) n (before + (slot + 1)) (fault_of beside.fault ∷ []) counter (counter + length beside.one.tried.items)) (sym first)
                 (subst (λ (n : ℕ). RiseAtMostOwn design (plan_by (kept_by own) plan) 0 n (fault_of beside.fault ∷ []) counter (counter + length beside.one.tried.items)) one
-                (first-rises some first counter))
+                (first-rises took some first counter))
           ]
-
-      -- of the first slot
-      first-rises : (some : TookOwn design plan (fault_of beside.fault) (before + slot) own at beside.one.tried.items) → before + slot ≡ 0 → (counter : ℕ) →
-          RiseAtMostOwn design (plan_by (kept_by own) plan) 0 1 (fault_of beside.fault ∷ []) counter (counter + length beside.one.tried.items)
-      first-rises some first counter =
-          let begun = begun-first design plan (fault_of beside.fault) (before + slot) some.copy beside.one.tried.items first some.may some.in_slot in
-          took.first design plan (fault_of beside.fault) (kept_by own) some.copy beside.one.tried.items counter begun.0 begun.1
 
   -- also where it was run whole through the slot
   pub whole-within : (tally : OwnStepsOf design plan) (new : ShardFault) (one other : ℕ) → SameFault own new →

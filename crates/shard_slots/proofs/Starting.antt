@@ -12,6 +12,7 @@ use Rattle.v_design.specs.States.{State, start}
 use Rattle.v_design.specs.WellFormed.{KeepsRules}
 use Rattle.copy_laws.specs.Differences.{Differences}
 use Rattle.copy_laws.specs.Windows.{good_slots}
+use Rattle.good_trace.specs.Traces.{WindowKept}
 use Rattle.order_laws.specs.FirstRuns.{FirstRunsGoOn, Follow}
 use Rattle.phase_order.specs.Order.{PhasesFollow}
 use Rattle.between_slots.proofs.Leading.{through-get}
@@ -44,18 +45,18 @@ use Rattle.shard_slots.specs.Slots.{Enters, EntersFirst, HaveEntered, HaveEntere
 -- it keeps what the faulty machine has otherwise than the good one at the start
 pub may-first : StartsInLockstep → GoodRunGoesOn → (design : FlatDesign) (plan : TestPlan) → KeepsRules design → 1 < length (good_slots design plan) → (fault : StuckAt) (number gone : ℕ)
     (copy : CopyKept) → KeepsStart design fault (nothing_kept number) copy → gone ≡ 0 → MayBeginSlot design plan fault gone copy
-may-first law good design plan rules more fault number gone copy keeps zero =
+may-first law good design plan rules more fault number gone copy keeps none =
     let starts = law design fault number copy keeps in
     let alike : value_differences copy.values ≡ lockstep_differences copy =
     ap (λ (k : CopyKept). record { values = copy.values; activities = []; updates = k.updates }) (sym starts.0) in
     record {
       none = ap (λ (k : CopyKept). k.states) starts.0;
       slot = last good design plan rules 0 more;
-      stands = subst (λ (n : ℕ). slice_get (good_slots design plan) n ≡ Some (last good design plan rules 0 more)) (sym zero) (last-there good design plan rules 0 more);
+      stands = subst (λ (n : ℕ). slice_get (good_slots design plan) n ≡ Some (last good design plan rules 0 more)) (sym none) (last-there good design plan rules 0 more);
       fine = fine-there good design plan rules 0 more;
       begins = start (faulty_machine design fault);
       given = inr (record {
-        number_is = zero;
+        number_is = none;
         begins_is = refl;
         together = record {
           rules = rules;
@@ -143,21 +144,25 @@ all-alike zero place first at here = cc
 all-alike (suc count) zero first at here = sym (some-at first at here)
 all-alike (suc count) (suc place) first at here = all-alike count place first at here
 
--- in a window that begins with the first slot
-pub all-entered : (design : FlatDesign) (plan : TestPlan) (before through from passed : ℕ) → before ≡ 0 → from ≡ 0 → 0 < through → 1 < length (good_slots design plan) →
-    HasPassed design plan from passed → (faults : List ShardFault) (ats : List FaultAt) (besides : List FaultBeside) → AllHold (IsShardFault design plan from passed) faults →
-    ats ≡ replicate (length faults) (record { slot = 0; passed = 0; seen = 0; possible = None }) → HaveEnteredFirst design plan through faults besides →
-    HaveEntered design plan before through 0 faults ats besides
-all-entered design plan before through from passed zero none low more has faults ats besides stands ats_are entered =
+-- in a window that begins with the first slot, where they are seen as a slice
+pub all-entered : (design : FlatDesign) (plan : TestPlan) (run window : WindowKept) (passed count : ℕ) (faults lent : List ShardFault) (ats : List FaultAt) (besides : List FaultBeside) →
+    window ≡ run → run.before ≡ 0 → run.through ≡ 1 → 1 < length (good_slots design plan) → HasPassed design plan run.before passed → AllHold (IsShardFault design plan run.before passed) faults →
+    lent ≡ faults → count ≡ length faults → ats ≡ replicate count (record { slot = 0; passed = 0; seen = 0; possible = None }) → HaveEnteredFirst design plan window.through lent besides →
+    HaveEntered design plan window.before window.through 0 faults ats besides
+all-entered design plan run window passed count faults lent ats besides is none one more has stands same many ats_are entered =
     let first : FaultAt = record { slot = 0; passed = 0; seen = 0; possible = None } in
-    subst (λ (n : ℕ). HaveEntered design plan n through 0 faults ats besides) (sym zero)
-    (have-entered design plan through passed (subst (λ (n : ℕ). HasPassed design plan n passed) none has) low more faults ats besides
-    (λ place own here. subst (λ (n : ℕ). IsShardFault design plan n passed own) none (all-get (IsShardFault design plan from passed) faults place own stands here))
-    (ap length ats_are ∙ length-replicate (length faults) first)
+    let begins : window.before ≡ 0 = ap (λ (w : WindowKept). w.before) is ∙ none in
+    let through : window.through ≡ 1 = ap (λ (w : WindowKept). w.through) is ∙ one in
+    let low : 0 < window.through = omega (arith, through) in
+    let counted : ats ≡ replicate (length faults) first = ats_are ∙ ap (λ (n : ℕ). replicate n first) many in
+    subst (λ (n : ℕ). HaveEntered design plan n window.through 0 faults ats besides) (sym begins)
+    (have-entered design plan window.through passed (subst (λ (n : ℕ). HasPassed design plan n passed) none has) low more faults ats besides
+    (λ place own here. subst (λ (n : ℕ). IsShardFault design plan n passed own) none (all-get (IsShardFault design plan run.before passed) faults place own stands here))
+    (ap length counted ∙ length-replicate (length faults) first)
     (λ place at here.
-    let same : at ≡ first = all-alike (length faults) place first at (subst (λ (l : List FaultAt). slice_get l place ≡ Some at) ats_are here) in
-    (ap (λ (a : FaultAt). a.slot) same, ap (λ (a : FaultAt). a.passed) same))
-    entered)
+    let alike : at ≡ first = all-alike (length faults) place first at (subst (λ (l : List FaultAt). slice_get l place ≡ Some at) counted here) in
+    (ap (λ (a : FaultAt). a.slot) alike, ap (λ (a : FaultAt). a.passed) alike))
+    (subst (λ (l : List ShardFault). HaveEnteredFirst design plan window.through l besides) same entered))
 
 -- The start
 
@@ -173,9 +178,9 @@ begins-first machine end (first ∷ slots) slot follow here = ap (λ (s : FirstS
 -- a moment at the first slot's beginning shows what the good machine holds at the start
 pub start-values : FirstRunsGoOn → PhasesFollow → (design : FlatDesign) (plan : TestPlan) → KeepsRules design → (from until : ℕ) (good : MomentKept) → from ≡ 0 →
     IsAtSlot design plan from until 0 good → good.values ≡ (start (good_machine design)).values
-start-values runs follow design plan rules from until good zero at =
+start-values runs follow design plan rules from until good none at =
     let machine = good_machine design in
-    let there : from + 0 ≡ 0 = omega (arith, zero) in
+    let there : from + 0 ≡ 0 = omega (arith, none) in
     let here : slice_get (first_run machine plan.end) 0 ≡ Some at.shown.slot =
     through-get machine (first_run machine plan.end) 0 at.shown.slot (ap (slice_get (good_slots design plan)) (sym there) ∙ slot-shown follow design plan from until 0 good at) in
     at.shown.shows.values

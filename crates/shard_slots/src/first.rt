@@ -39,17 +39,17 @@ fn enter_first<N: World>(
     setup: &Setup<'_, N>,
     view: &LockstepWindow<'_, N>,
     good: &[Vec4],
-    start: &mut StartRoom<'_>,
+    room: &mut StartRoom<'_>,
     own: &ShardFault,
 ) -> Result<FaultBeside, NoMemory>
     requires first { view.now.window.now.before ≡ 0 }
     requires slot { 0 < view.now.window.now.through }
     requires more { 1 < length (good_slots N.design N.plan) }
     requires good { good.now ≡ (start (good_machine N.design)).values }
-    requires start { IsRoomFor N.design start.old }
+    requires room { IsRoomFor N.design room.old }
     requires fault { own.now.copy.fault < length N.plan.faults }
     ensures enters { IfOk result (EntersFirst N.design N.plan view.now.window.now.through own.now) }
-    ensures start { OnOk result (IsRoomFor N.design start.new) }
+    ensures room { OnOk result (IsRoomFor N.design room.new) }
 {
     beside_laws::good_run_goes_on();
     searches_begin();
@@ -59,7 +59,7 @@ fn enter_first<N: World>(
     let fault = listed_fault(setup, &own.copy);
     let number = own.copy.fault();
     let mut copy = FaultCopy::new(alloc, number);
-    start_copy(fault, good, start, &mut copy)?;
+    start_copy(fault, good, room, &mut copy)?;
     let found = enter_slot(alloc, view, fault, &copy, 0)?;
     match found {
         None => Ok(rests(alloc, fault, number)),
@@ -78,21 +78,21 @@ fn enter_first_each<N: World>(
     setup: &Setup<'_, N>,
     view: &LockstepWindow<'_, N>,
     good: &[Vec4],
-    start: &mut StartRoom<'_>,
+    room: &mut StartRoom<'_>,
     faults: &[ShardFault],
 ) -> Result<Vec<FaultBeside>, NoMemory>
     requires first { view.now.window.now.before ≡ 0 }
     requires slot { 0 < view.now.window.now.through }
     requires more { 1 < length (good_slots N.design N.plan) }
     requires good { good.now ≡ (start (good_machine N.design)).values }
-    requires start { IsRoomFor N.design start.old }
+    requires room { IsRoomFor N.design room.old }
     requires faults { AllHold (λ (own : ShardFault). own.copy.fault < length N.plan.faults) faults.now }
     ensures entered { IfOk result (λ besides. HaveEnteredFirst N.design N.plan view.now.window.now.through faults.now besides.items) }
-    ensures start { OnOk result (IsRoomFor N.design start.new) }
+    ensures room { OnOk result (IsRoomFor N.design room.new) }
 {
     let mut besides = Vec::with_capacity(alloc, faults.len())?;
     'faults: for own in faults {
-        let beside = enter_first(alloc, setup, view, good, start, own)?;
+        let beside = enter_first(alloc, setup, view, good, room, own)?;
         besides.push(beside)?;
     }
     Ok(besides)

@@ -21,9 +21,6 @@ begins-at : (before time : ℕ) (slots : List FirstSlot) (slot : FirstSlot) → 
     ((one : FirstSlot) → slice_get slots (before + 0) ≡ Some one → time ≡ one.begins.time) → time ≡ slot.begins.time
 begins-at before time slots slot first here is = is slot (let at : before + 0 ≡ 0 = omega (arith, first) in ap (slice_get slots) at ∙ here)
 
-pub slot_time-begins-requires : goal.slot_time-begins-requires
-slot_time-begins-requires g c κs within = omega (arith, c.requires.first, c.requires.slot)
-
 pub see_behind-requires-clause-slot : goal.see_behind-requires-clause-slot
 see_behind-requires-clause-slot g c κs within = omega (arith, c.requires.first, c.requires.slot)
 

@@ -1,5 +1,5 @@
 -- From the start of the faulty machine.
-use Rattle.std.proofs.Common.{◌≡◌, ℕ, ◌+◌, ◌≤◌, Bool, length, refl, sym, ap, subst, ◌∙◌, arith}
+use Rattle.std.proofs.Common.{◌≡◌, ℕ, ◌+◌, ◌≤◌, Bool, length, sym, ap, subst, ◌∙◌, arith}
 use Rattle.std.specs.Prelude.{Some, slice_get, sum}
 use Rattle.v_design.specs.Designs.{FlatDesign, TestPlan, faulty_machine}
 use Rattle.v_design.specs.Runs.{FirstSlot}
@@ -45,8 +45,8 @@ returns-clause-ticks g c = λ counts zip.
     (starts c.machines_stand.ensures c.strobed_gradings_go_on.ensures c.slots_are_known.ensures g.N.World.design g.N.World.plan c.args.window.now.before (c.args.window.now.before + c.args.end)
     c.args.window.now.before c.args.window.now.through c.args.strobes.now _
     (fault_of c.args.fault) (record c.args.own.now { strobed = c.forget.new.self }) c.in_ok-machine.machine c.slots_told.ensures (omega arith) c.requires.end (omega (arith, c.requires.some))
-      (subst (λ (kept : Bool). MayTry g.N.World.design (plan_by kept g.N.World.plan) c.args.window.now.before (fault_of c.args.fault) c.args.tried.now) (sym c.forget.ensures.kind) c.requires.tried)
-      (first-at g.N.World.design g.N.World.plan c.args.window.now.before c.slot_time.result c.slot_time.ensures)
+    (subst (λ (kept : Bool). MayTry g.N.World.design (plan_by kept g.N.World.plan) c.args.window.now.before (fault_of c.args.fault) c.args.tried.now) (sym c.forget.ensures.kind) c.requires.tried)
+    (first-at g.N.World.design g.N.World.plan c.args.window.now.before c.slot_time.result c.slot_time.ensures)
     (begins-anew g.N.World.design g.N.World.plan c.args.window.now.before (c.args.window.now.before + c.args.end) c.args.strobes.now (fault_of c.args.fault) c.args.own.now c.forget.new.self
     c.requires.fault)
     (has-rules g.N.World.design g.N.World.plan c.design-design.result.now c.plan-plan.result.now c.design-design.ensures.world c.plan-plan.ensures.world c.plan-plan.ensures.fits)

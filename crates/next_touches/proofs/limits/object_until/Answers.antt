@@ -1,18 +1,15 @@
--- What is remembered holds from a later moment on; else it is found and remembered.
+-- What is remembered holds from a later moment on.
 use Rattle.std.proofs.Common.{◌<◌, length, arith}
 use Rattle.std.proofs.lemmas.List.{get_or_read}
 use Rattle.vf_base.specs.Base.{object_number}
 use Rattle.copy_skip.specs.Limits.{IsLeftAlone}
 use Rattle.trace_window.specs.Moments.{window_events}
 use Rattle.next_touches.specs.Touches.{no_stretch}
-use Rattle.next_touches.proofs.Known.{alone-later, stretch-at, stretches-set}
+use Rattle.next_touches.proofs.Known.{alone-later, stretch-at}
 use Rattle.next_touches.proofs.limits.object_until.Goals as goal
 
 pub index-known-requires : goal.index-known-requires
 index-known-requires g c = omega (arith, c.requires.there, c.requires.known.count_is)
-
-pub index_mut-requires : goal.index_mut-requires
-index_mut-requires g c = omega (arith, c.requires.there, c.requires.known.count_is)
 
 pub returns-then-has_moment-clause-alone : goal.returns-then-has_moment-clause-alone
 returns-then-has_moment-clause-alone g c =
@@ -23,9 +20,3 @@ returns-then-has_moment-clause-alone g c =
     alone-later g.N.World.design events object c.index-known.result.now.from c.args.first c.index-known.result.now.until (c.has_moment.ensures.from c.if-has_moment.true)
     (stretch-at (IsLeftAlone g.N.World.design events) (length g.N.World.design.objects) stretches object c.index-known.result.now c.requires.there
     (get_or_read stretches object c.index-known.result.now low c.index-known.ensures no_stretch) c.requires.known)
-
-pub returns-clause-known : goal.returns-clause-known
-returns-clause-known g c =
-    let events = window_events g.N.World.design g.N.World.plan c.args.window.now.before c.args.window.now.through in
-    stretches-set (IsLeftAlone g.N.World.design events) (length g.N.World.design.objects) c.args.objects.now.items (object_number c.args.object)
-    (record { from = c.args.first; until = c.object_limit-until.result }) c.requires.there c.requires.known c.object_limit-until.ensures

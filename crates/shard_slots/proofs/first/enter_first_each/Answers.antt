@@ -13,12 +13,12 @@ pub faults-init : goal.faults-init
 faults-init g c = record {
   most = omega arith;
   got = ap length c.in_ok-besides.ensures.items;
-  start = c.requires.start;
+  room = c.requires.room;
   each = λ place own one here there. absurd (let none : slice_get {X = FaultBeside} [] place ≡ Some one = subst (λ (l : List FaultBeside). slice_get l place ≡ Some one) c.in_ok-besides.ensures.items there in cc);
 }
 
-pub enter_first-requires-clause-start : goal.enter_first-requires-clause-start
-enter_first-requires-clause-start g c κs within = c.faults.invariant.start
+pub enter_first-requires-clause-room : goal.enter_first-requires-clause-room
+enter_first-requires-clause-room g c κs within = c.faults.invariant.room
 
 pub enter_first-requires-clause-fault : goal.enter_first-requires-clause-fault
 enter_first-requires-clause-fault g c κs within =
@@ -33,7 +33,7 @@ faults-preserved g c =
     record {
       most = omega (arith, c.faults-test.true);
       got = ap length c.in_ok-push.ensures.items ∙ (length_push besides c.in_ok-beside.beside ∙ ap (λ n. n + 1) c.faults.invariant.got);
-      start = c.in_ok-beside.ensures.start;
+      room = c.in_ok-beside.ensures.room;
       each = λ place u w one two. more-pair R c.args.faults.now besides c.faults.own-index c.own-item.result c.in_ok-beside.beside
           (at-read c.args.faults.now c.faults.own-index c.own-item.result c.faults-test.true c.own-item.is) c.faults.invariant.got c.in_ok-beside.ensures.enters c.faults.invariant.each place u w one
           (subst (λ (l : List FaultBeside). slice_get l place ≡ Some w) c.in_ok-push.ensures.items two);
@@ -45,5 +45,5 @@ returns-clause-entered g c = record {
   each = c.faults.invariant.each;
 }
 
-pub returns-clause-start : goal.returns-clause-start
-returns-clause-start g c = c.faults.invariant.start
+pub returns-clause-room : goal.returns-clause-room
+returns-clause-room g c = c.faults.invariant.room

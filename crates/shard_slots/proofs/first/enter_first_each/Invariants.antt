@@ -11,7 +11,7 @@ abbrev pub invariant-faults : goal.invariant-faults
 invariant-faults g l = record {
   most : l.own-index ≤ length l.faults;
   got : length l.besides.items ≡ l.own-index;
-  start : IsRoomFor g.N.World.design l.start;
+  room : IsRoomFor g.N.World.design l.room;
   each : (place : ℕ) (own : ShardFault) (one : FaultBeside) → slice_get l.faults place ≡ Some own → slice_get l.besides.items place ≡ Some one →
       EntersFirst g.N.World.design g.N.World.plan l.view.window.now.through own one;
 }

@@ -1,6 +1,7 @@
--- Draft: goals' names unchecked.
+-- In, through and out; the window is the run's, and has one slot.
 use Rattle.std.proofs.Common.{◌≡◌, ◌+◌, ◌<◌, ℕ, length, sym, ap, subst, ◌∙◌, arith}
 use Rattle.std.specs.List.{AllZip}
+use Rattle.vf_base.specs.Lists.{AllHold}
 use Rattle.good_trace.specs.Traces.{WindowKept}
 use Rattle.copy_lockstep.specs.graded_steps.Behind.{RisesWithin}
 use Rattle.copy_lockstep.specs.window_strobes.Passed.{HasPassed}
@@ -23,29 +24,30 @@ pub go_to-requires-clause-slot : goal.go_to-requires-clause-slot
 go_to-requires-clause-slot g c κs within =
     subst (λ (w : WindowKept). w.before + 0 < w.through) (sym c.view_of-view.ensures.window) (omega (arith, c.requires.first, c.requires.one))
 
-pub enter_first_each-besides-requires-clause-first : goal.enter_first_each-besides-requires-clause-first
-enter_first_each-besides-requires-clause-first g c κs within = ap (λ (w : WindowKept). w.before) c.view_of-view.ensures.window ∙ c.requires.first
+pub enter_first_each-requires-clause-first : goal.enter_first_each-requires-clause-first
+enter_first_each-requires-clause-first g c κs within = ap (λ (w : WindowKept). w.before) c.view_of-view.ensures.window ∙ c.requires.first
 
-pub enter_first_each-besides-requires-clause-slot : goal.enter_first_each-besides-requires-clause-slot
-enter_first_each-besides-requires-clause-slot g c κs within = subst (λ (w : WindowKept). 0 < w.through) (sym c.view_of-view.ensures.window) (omega (arith, c.requires.one))
+pub enter_first_each-requires-clause-slot : goal.enter_first_each-requires-clause-slot
+enter_first_each-requires-clause-slot g c κs within = subst (λ (w : WindowKept). 0 < w.through) (sym c.view_of-view.ensures.window) (omega (arith, c.requires.one))
 
-pub enter_first_each-besides-requires-clause-more : goal.enter_first_each-besides-requires-clause-more
-enter_first_each-besides-requires-clause-more g c κs within = c.requires.more
+pub enter_first_each-requires-clause-more : goal.enter_first_each-requires-clause-more
+enter_first_each-requires-clause-more g c κs within = c.requires.more
 
-pub enter_first_each-besides-requires-clause-good : goal.enter_first_each-besides-requires-clause-good
-enter_first_each-besides-requires-clause-good g c κs within =
+pub enter_first_each-requires-clause-good : goal.enter_first_each-requires-clause-good
+enter_first_each-requires-clause-good g c κs within =
     c.values.ensures
     ∙ start-values c.first_run_goes_on.ensures c.phases_follow.ensures.phases g.N.World.design g.N.World.plan
     (design-rules g.N.World.design c.design-design.result.now c.design-design.ensures.world) c.view_of-view.result.window.now.before c.view_of-view.result.window.now.through c.go_to.new.self
     (ap (λ (w : WindowKept). w.before) c.view_of-view.ensures.window ∙ c.requires.first) c.in_ok-go_to.ensures
 
-pub enter_first_each-besides-requires-clause-start : goal.enter_first_each-besides-requires-clause-start
-enter_first_each-besides-requires-clause-start g c κs within = c.room.invariant.2
+pub enter_first_each-requires-clause-room : goal.enter_first_each-requires-clause-room
+enter_first_each-requires-clause-room g c κs within = c.room.invariant.2
 
-pub enter_first_each-besides-requires-clause-faults : goal.enter_first_each-besides-requires-clause-faults
-enter_first_each-besides-requires-clause-faults g c κs within =
-    all-held (IsShardFault g.N.World.design g.N.World.plan c.args.run.now.before c.args.strobes.now.passed) (λ (own : ShardFault). own.copy.fault < length g.N.World.plan.faults)
-    (λ own stands. is-listed g.N.World.design g.N.World.plan c.args.run.now.before c.args.strobes.now.passed own stands) c.args.faults.now.items c.requires.faults
+pub enter_first_each-requires-clause-faults : goal.enter_first_each-requires-clause-faults
+enter_first_each-requires-clause-faults g c κs within =
+    subst (AllHold (λ (own : ShardFault). own.copy.fault < length g.N.World.plan.faults)) (sym c.deref.ensures.value)
+    (all-held (IsShardFault g.N.World.design g.N.World.plan c.args.run.now.before c.args.strobes.now.passed) (λ (own : ShardFault). own.copy.fault < length g.N.World.plan.faults)
+    (λ own stands. is-listed g.N.World.design g.N.World.plan c.args.run.now.before c.args.strobes.now.passed own stands) c.args.faults.now.items c.requires.faults)
 
 pub go_beside-requires-clause-slot : goal.go_beside-requires-clause-slot
 go_beside-requires-clause-slot g c κs within =
@@ -53,29 +55,23 @@ go_beside-requires-clause-slot g c κs within =
 
 pub go_beside-requires-clause-lockstep : goal.go_beside-requires-clause-lockstep
 go_beside-requires-clause-lockstep g c κs within =
-    let w = c.view_of-view.result.window.now in
-    let old = c.room.inside.lockstep in
-    room-there g.N.World.design g.N.World.plan w.before w.through old.runner old.before old.behind c.go_to.new.self old.counts c.room.invariant.1 c.in_ok-go_to.ensures
+    room-there g.N.World.design g.N.World.plan c.view_of-view.result.window.now.before c.view_of-view.result.window.now.through _ _ _ _ _ c.room.invariant.1 c.in_ok-go_to.ensures
 
 pub go_beside-requires-clause-begins : goal.go_beside-requires-clause-begins
 go_beside-requires-clause-begins g c κs within =
     let w = c.view_of-view.result.window.now in
-    let is = c.view_of-view.ensures.window in
-    let zero : w.before ≡ 0 = ap (λ (k : WindowKept). k.before) is ∙ c.requires.first in
-    let low : 0 < w.through = subst (λ (k : WindowKept). 0 < k.through) (sym is) (omega (arith, c.requires.one)) in
     begin-each g.N.World.design g.N.World.plan w.before w.through 0 c.args.faults.now.items c.in_ok-ats.ats.items c.in_ok-besides.besides.items
-    (all-entered g.N.World.design g.N.World.plan w.before w.through c.args.run.now.before c.args.strobes.now.passed zero c.requires.first low c.requires.more c.requires.strobes.has_passed
-    c.args.faults.now.items c.in_ok-ats.ats.items c.in_ok-besides.besides.items c.requires.faults c.in_ok-ats.ensures c.in_ok-besides.ensures.entered)
+    (all-entered g.N.World.design g.N.World.plan c.args.run.now w c.args.strobes.now.passed _ c.args.faults.now.items _ c.in_ok-ats.ats.items c.in_ok-besides.besides.items
+    c.view_of-view.ensures.window c.requires.first c.requires.one c.requires.more c.requires.strobes.has_passed c.requires.faults c.deref.ensures.value c.len.ensures c.in_ok-ats.ensures
+    c.in_ok-besides.ensures.entered)
 
 pub go_beside-requires-clause-sites : goal.go_beside-requires-clause-sites
 go_beside-requires-clause-sites g c κs within =
     let w = c.view_of-view.result.window.now in
-    let is = c.view_of-view.ensures.window in
-    let zero : w.before ≡ 0 = ap (λ (k : WindowKept). k.before) is ∙ c.requires.first in
-    let low : 0 < w.through = subst (λ (k : WindowKept). 0 < k.through) (sym is) (omega (arith, c.requires.one)) in
     sites g.N.World.design g.N.World.plan w.before w.through 0 c.args.faults.now.items c.in_ok-ats.ats.items c.in_ok-besides.besides.items
-    (all-entered g.N.World.design g.N.World.plan w.before w.through c.args.run.now.before c.args.strobes.now.passed zero c.requires.first low c.requires.more c.requires.strobes.has_passed
-    c.args.faults.now.items c.in_ok-ats.ats.items c.in_ok-besides.besides.items c.requires.faults c.in_ok-ats.ensures c.in_ok-besides.ensures.entered)
+    (all-entered g.N.World.design g.N.World.plan c.args.run.now w c.args.strobes.now.passed _ c.args.faults.now.items _ c.in_ok-ats.ats.items c.in_ok-besides.besides.items
+    c.view_of-view.ensures.window c.requires.first c.requires.one c.requires.more c.requires.strobes.has_passed c.requires.faults c.deref.ensures.value c.len.ensures c.in_ok-ats.ensures
+    c.in_ok-besides.ensures.entered)
     c.searches_begin.ensures c.plan-plan.ensures.fits
 
 pub leave_each-requires-clause-one : goal.leave_each-requires-clause-one
@@ -102,16 +98,14 @@ leave_each-requires-clause-behind g c κs within =
 pub leave_each-requires-clause-gone : goal.leave_each-requires-clause-gone
 leave_each-requires-clause-gone g c κs within =
     let w = c.view_of-view.result.window.now in
-    let is = c.view_of-view.ensures.window in
-    let zero : w.before ≡ 0 = ap (λ (k : WindowKept). k.before) is ∙ c.requires.first in
-    let low : 0 < w.through = subst (λ (k : WindowKept). 0 < k.through) (sym is) (omega (arith, c.requires.one)) in
     have-gone g.N.World.design g.N.World.plan w.before w.through 0 c.args.faults.now.items c.in_ok-ats.ats.items c.in_ok-besides.besides.items c.go_beside.new.besides.items
-    (all-entered g.N.World.design g.N.World.plan w.before w.through c.args.run.now.before c.args.strobes.now.passed zero c.requires.first low c.requires.more c.requires.strobes.has_passed
-    c.args.faults.now.items c.in_ok-ats.ats.items c.in_ok-besides.besides.items c.requires.faults c.in_ok-ats.ensures c.in_ok-besides.ensures.entered)
+    (all-entered g.N.World.design g.N.World.plan c.args.run.now w c.args.strobes.now.passed _ c.args.faults.now.items _ c.in_ok-ats.ats.items c.in_ok-besides.besides.items
+    c.view_of-view.ensures.window c.requires.first c.requires.one c.requires.more c.requires.strobes.has_passed c.requires.faults c.deref.ensures.value c.len.ensures c.in_ok-ats.ensures
+    c.in_ok-besides.ensures.entered)
     c.in_ok-go_beside.ensures.besides
 
 pub invariant_of-result : goal.invariant_of-result
-invariant_of-result g c = (c.in_ok-leave_each.ensures.room, c.in_ok-go_beside.ensures.lockstep, c.in_ok-besides.ensures.start)
+invariant_of-result g c = (c.in_ok-leave_each.ensures.room, c.in_ok-go_beside.ensures.lockstep, c.in_ok-besides.ensures.room)
 
 pub returns-clause-faults : goal.returns-clause-faults
 returns-clause-faults g c =
@@ -133,13 +127,13 @@ returns-clause-ticks g c tally =
     let is = c.view_of-view.ensures.window in
     let before = ap (λ (k : WindowKept). k.before) is in
     let zero : w.before ≡ 0 = before ∙ c.requires.first in
-    let low : 0 < w.through = subst (λ (k : WindowKept). 0 < k.through) (sym is) (omega (arith, c.requires.one)) in
     let here : c.args.run.now.before ≡ w.before + 0 = omega (arith, before) in
     let there : w.before + (0 + 1) ≡ c.args.run.now.through = omega (arith, zero, c.requires.one) in
     let same = ap (λ (n : ℕ). steps_of_faults tally n c.args.faults.now.items) here in
     let none = none-ticked design plan w.before w.through 0 c.args.faults.now.items c.in_ok-ats.ats.items c.in_ok-besides.besides.items
-    (all-entered design plan w.before w.through c.args.run.now.before c.args.strobes.now.passed zero c.requires.first low c.requires.more c.requires.strobes.has_passed
-    c.args.faults.now.items c.in_ok-ats.ats.items c.in_ok-besides.besides.items c.requires.faults c.in_ok-ats.ensures c.in_ok-besides.ensures.entered) in
+    (all-entered design plan c.args.run.now w c.args.strobes.now.passed _ c.args.faults.now.items _ c.in_ok-ats.ats.items c.in_ok-besides.besides.items
+    c.view_of-view.ensures.window c.requires.first c.requires.one c.requires.more c.requires.strobes.has_passed c.requires.faults c.deref.ensures.value c.len.ensures c.in_ok-ats.ensures
+    c.in_ok-besides.ensures.entered) in
     subst (λ (n : ℕ). RisesWithin (steps_of_faults tally c.args.run.now.before c.args.faults.now.items) (steps_of_faults tally n c.leave_each.new.faults.items) c.args.steps.now c.leave_each.new.steps)
     there
     (slot-rises (steps_of_faults tally c.args.run.now.before c.args.faults.now.items) (steps_of_faults tally (w.before + 0) c.args.faults.now.items) _ _ _ c.args.steps.now c.go_beside.new.steps
