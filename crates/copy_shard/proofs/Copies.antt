@@ -1,5 +1,5 @@
 -- A copy of a shard stands as the shard does (slots by IEEE 1364-2001, clause 5).
-use Rattle.std.proofs.Common.{◌≡◌, ℕ, zero, suc, ◌+◌, ◌<◌, Bool, true, false, not, ◌||◌, List, [], ◌∷◌, ◌++◌, length, map, get_or, take, refl, ap, sym, subst, ◌∙◌, arith}
+use Rattle.std.proofs.Common.{◌≡◌, ℕ, zero, suc, ◌+◌, ◌<◌, Bool, false, not, ◌||◌, List, [], ◌∷◌, ◌++◌, length, map, get_or, take, refl, ap, sym, subst, ◌∙◌, arith}
 use Rattle.std.specs.Prelude.{Option, Some, None, is_some, option_map, slice_get}
 use Rattle.std.specs.List.{AllZip, list_any, cons_option}
 use Rattle.std.proofs.lemmas.List.Elements.{all_zip_more}
@@ -20,8 +20,8 @@ use Rattle.process_code.specs.declared.state.ProcState.{ProcState}
 use Rattle.grade_laws.specs.Grading.{good_seen, faulty_seen}
 use Rattle.fault_strobes.specs.Full.{IsFull}
 use Rattle.fault_strobes.specs.Said.{IsSaid, Said, keeps, plan_by}
-use Rattle.copy_laws.specs.Differences.{Differences, own_of}
-use Rattle.copy_laws.specs.Windows.{FaultBeside, IsBesideAt, good_slots, time_at}
+use Rattle.copy_laws.specs.Differences.{own_of}
+use Rattle.copy_laws.specs.Windows.{IsBesideAt}
 use Rattle.copy_state.specs.Copied.{IsSameState, KeepsSame}
 use Rattle.copy_state.specs.Entries.{each_by}
 use Rattle.copy_state.specs.EntryLaws.{own-each}
@@ -29,12 +29,12 @@ use Rattle.copy_state.specs.Kept.{AreStatesOf, CopyKept}
 use Rattle.copy_between.specs.Beside.{KeepsWithin}
 use Rattle.own_gradings.specs.Numbers.{OwnStepsOf}
 use Rattle.shard_windows.specs.copy_window.Copies.{differences_in, done_in}
-use Rattle.shard_windows.specs.copy_window.ShardFaults.{GoesOnAt, IsShardFault, beside_by, kept_by, said_by}
+use Rattle.shard_windows.specs.copy_window.ShardFaults.{GoesOnAt, IsShardFault, beside_by, kept_by}
 use Rattle.shard_windows.specs.copy_window.declared.fault.ShardFault.{ShardFault}
 use Rattle.copy_shard.specs.Copied.{IsCopied, IsSameFault, IsSameShard, differences_of_each}
-use Rattle.shard_windows.specs.Reached.{HasReachedIfOpen, is_open}
+use Rattle.shard_windows.specs.Reached.{is_open}
 use Rattle.copy_shard.specs.Kept.{IsShard, fault_kept}
-use Rattle.copy_shard.specs.Shards.{FaultKept, ShardKept, finding_of, findings_of, goes_on, places_of, shard_steps}
+use Rattle.copy_shard.specs.Shards.{FaultKept, ShardKept, findings_of, goes_on, places_of, shard_steps}
 use Rattle.shard_windows.specs.declared.reached.Reached.{Reached}
 use Rattle.copy_shard.proofs.Ticks.{same-sums}
 

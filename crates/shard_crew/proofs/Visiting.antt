@@ -1,7 +1,6 @@
 -- The seats of a round's backups, as they are split off for workers and joined again (nothing of the language).
-use Rattle.std.proofs.Common.{◌≡◌, ℕ, ◌+◌, ◌*◌, ◌-◌, ◌^◌, ◌<◌, ◌≤◌, true, IsTrue, List, [], ◌++◌, length, refl, sym, ap, subst, ◌∙◌, arith}
+use Rattle.std.proofs.Common.{◌≡◌, ℕ, ◌+◌, ◌*◌, ◌-◌, ◌^◌, ◌<◌, ◌≤◌, List, length, refl, sym, ap, subst, ◌∙◌, arith}
 use Rattle.std.proofs.lemmas.Bool.{or_right}
-use Rattle.std.specs.List.{All}
 use Rattle.std.proofs.lemmas.List.Elements.{All-weaker}
 use Rattle.fault_shards.specs.Cuts.{shard_count}
 use Rattle.verdict_words.specs.Seats.{view}
@@ -12,7 +11,7 @@ use Rattle.shard_claims.specs.copy_shard.declared.together.ClaimedShard.{Claimed
 use Rattle.shard_claims.specs.shard_turns.declared.backups.Backups.{Backups}
 use Rattle.shard_claims.specs.shard_turns.declared.backups.BackupSeat.{BackupSeat}
 use Rattle.shard_claims.specs.declared.worker.Worker.{Worker}
-use Rattle.shard_claims.specs.Workers.{HasVisited, IsBackupSeat, IsClaimed, IsFreshBackup, IsWorkerAt, StaysSeat, visited_by, visits_in}
+use Rattle.shard_claims.specs.Workers.{HasVisited, IsBackupSeat, IsClaimed, IsFreshBackup, IsWorkerAt, StaysSeat, visits_in}
 use Rattle.shard_claims.specs.WorkerLaws.{has-claimed}
 use Rattle.shard_crew.specs.Crews.{HasCrewVisited, IsCrewSeat}
 use Rattle.shard_crew.specs.Leaving.{AreNumbered, HasSlot, HaveSlots}

@@ -28,7 +28,8 @@ fn work_alone<N: World, G: Gate, L: Ledger>(
     requires one { length mine.old ≡ 1 }
     ensures through { IfOk result (λ after. IsWorkerAt (representatives_of round.now.shards.now) round.now.board.now round.now.window.now.through after.worker) }
     ensures visited { IfOk result (λ after. (one : Seated N) → seated.old ≡ Some one → HasVisited round.now.backups.now one.backup after.backup) }
-    ensures ticks { IfOk result (λ after. WorkerRose N.design N.plan (representatives_of round.now.shards.now) round.now.window.now.before round.now.window.now.through seated.old after mine.old mine.new) }
+    ensures ticks { IfOk result (λ after. WorkerRose N.design N.plan (representatives_of round.now.shards.now) round.now.window.now.before round.now.window.now.through
+        seated.old after mine.old mine.new) }
 {
     let Some(one) = seated.take() else {
         unreachable!();
@@ -75,7 +76,8 @@ pub fn crew<N: World, R: Threads + Sync, G: Gate + Sync, L: Ledger + Send + Sync
             worker,
             backup: all,
         });
-        let Seated { worker, backup } = work_alone(alloc, round, &mut first, mine)?;
+        let alone = work_alone(alloc, round, &mut first, mine)?;
+        let Seated { worker, backup } = alone;
         workers.push(worker)?;
         return Ok(backup);
     }
@@ -109,8 +111,9 @@ pub fn crew<N: World, R: Threads + Sync, G: Gate + Sync, L: Ledger + Send + Sync
                 workers.entry.now.items workers.exit.now.items after others.entry.now others.exit.now) }
         { crew(rt, theirs, round, workers, &mut left, others) },
     );
-    let Seated { worker, backup } = a?;
+    let came = a?;
     let rest = b?;
+    let Seated { worker, backup } = came;
     workers.push(worker)?;
     Ok(round.backups.join(rest, backup))
 }

@@ -1,10 +1,9 @@
 -- The slots of a round (nothing of the language).
-use Rattle.std.proofs.Common.{◌≡◌, ℕ, ◌+◌, ◌≤◌, ◌^◌, false, List, length, refl, sym, ap, ◌∙◌, arith}
+use Rattle.std.proofs.Common.{◌≡◌, ℕ, ◌≤◌, false, List, length, ap, ◌∙◌, arith}
 use Rattle.std.specs.Prelude.{sum}
 use Rattle.std.specs.List.{All}
 use Rattle.std.proofs.lemmas.List.Elements.{All-weaker}
 use Rattle.v_design.specs.Designs.{FlatDesign, TestPlan}
-use Rattle.own_gradings.specs.Numbers.{OwnStepsOf}
 use Rattle.fault_shards.specs.Cuts.{shard_count}
 use Rattle.fault_shards.specs.Shards.{representatives_of}
 use Rattle.fault_shards.specs.declared.shards.Shards.{Shards}
@@ -16,7 +15,7 @@ use Rattle.shard_crew.specs.shard_claims.Workers.{AddUp, IsBackupSeat, IsWorkerA
 use Rattle.shard_crew.specs.shard_claims.declared.worker.Worker.{Worker}
 use Rattle.shard_crew.specs.shard_turns.declared.backups.Backups.{Backups}
 use Rattle.shard_crew.specs.shard_turns.declared.backups.BackupSeat.{BackupSeat}
-use Rattle.shard_crew.specs.Crews.{AreWorkersAt, CrewRose, crew_steps}
+use Rattle.shard_crew.specs.Crews.{AreWorkersAt, CrewRose}
 use Rattle.shard_crew.specs.Leaving.{AreNumbered}
 use Rattle.shard_crew.proofs.Visiting.{crew-first, crew-stays, numbered}
 use Rattle.shard_rounds.specs.Rounds.{BackedUp, CrewTicks}

@@ -1,5 +1,5 @@
 -- How rounds follow each other (slots by IEEE 1364-2001, clause 5).
-use Rattle.std.specs.Prelude.{◌≡◌, ℕ, ◌+◌, ◌≤◌, ◌^◌, true, List, length, sum}
+use Rattle.std.specs.Prelude.{◌≡◌, ℕ, ◌+◌, ◌^◌, true, List, length, sum}
 use Rattle.v_design.specs.Designs.{FlatDesign, TestPlan}
 use Rattle.copy_laws.specs.Windows.{IsWindow, good_slots}
 use Rattle.shard_crew.specs.fault_grade.Results.{LoopsAt}
@@ -10,7 +10,6 @@ use Rattle.shard_crew.specs.graded_steps.Behind.{RisesWithin}
 use Rattle.good_windows.specs.Next.{RunKept, GivesNext, steps_of_slots}
 use Rattle.good_windows.specs.declared.next.NextWindow.{NextWindow}
 use Rattle.verdict_words.specs.declared.board.Board.{Board}
-use Rattle.fault_shards.specs.Shards.{representatives_of}
 use Rattle.fault_shards.specs.declared.shards.Shards.{Shards}
 use Rattle.shard_crew.specs.shard_claims.Workers.{AreBackupsOf, faults_steps}
 use Rattle.shard_crew.specs.shard_turns.declared.backups.Backups.{Backups}

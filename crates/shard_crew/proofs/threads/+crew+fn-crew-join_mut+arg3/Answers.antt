@@ -1,7 +1,7 @@
 -- All workers come back.
 use Rattle.std.proofs.Common.{◌≡◌, ◌+◌, ◌*◌, ◌<◌, ◌++◌, ◌∷◌, [], length, refl, sym, ap, subst, ◌∙◌, arith, rules}
 use Rattle.fault_shards.specs.Shards.{representatives_of}
-use Rattle.std.specs.Prelude.{sum, Some, IsSomeAnd}
+use Rattle.std.specs.Prelude.{sum, Some}
 use Rattle.verdict_words.specs.declared.view.View.{View}
 use Rattle.shard_claims.specs.Workers.{HasVisited, IsWorkerAt, visit_steps, visited_by}
 use Rattle.shard_claims.specs.declared.worker.Seated.{Seated}
@@ -20,7 +20,7 @@ use Rattle.shard_crew.proofs.Visiting.{crew-alone, crew-enough, crew-joined, cre
 use Rattle.shard_claims.specs.graded_steps.Behind.{RisesWithin}
 use Rattle.shard_crew.proofs.Ticks.{crew-more, none-at, nothing-rises, some-at}
 use Rattle.shard_crew.proofs.threads.+crew+fn-crew-join_mut+arg3.Given.{Over}
-use Rattle.shard_crew.proofs.threads.+crew+fn-crew-join_mut+arg3.Lts-crew.{arg-13-1}
+use Rattle.shard_crew.proofs.threads.+crew+fn-crew-join_mut+arg3.Lts-crew.{arg-15-1}
 use Rattle.shard_crew.proofs.threads.+crew+fn-crew-join_mut+arg3.Goals as goal
 
 some-is : {A : Type 0} (x y : A) → Some x ≡ Some y → x ≡ y
@@ -57,8 +57,8 @@ returns-in_default-pop-clause-ticks g t c =
           c.args.workers.now.items c.pop.new.self.items (visited_by c.in-Some.all) (sum c.args.steps.now) none.0 seat.none;
     }
 
-captured_send : (g : Over) (κs : Lfts 21) → IsSend (param 0 g.row.N) → IsSync (param 0 g.row.N) → IsSync (param 2 g.row.G) → IsSend (param 3 g.row.L) →
-    IsSend (arg-13-1 g.row.N g.row.R g.row.G g.row.L g.N.laws g.R.laws g.G.laws g.L.laws g.N.World g.N.World-dict g.R.Threads g.R.Threads-dict g.G.Gate g.G.Gate-dict
+captured_send : (g : Over) (κs : Lfts 22) → IsSend (param 0 g.row.N) → IsSync (param 0 g.row.N) → IsSync (param 2 g.row.G) → IsSend (param 3 g.row.L) →
+    IsSend (arg-15-1 g.row.N g.row.R g.row.G g.row.L g.N.laws g.R.laws g.G.laws g.L.laws g.N.World g.N.World-dict g.R.Threads g.R.Threads-dict g.G.Gate g.G.Gate-dict
     g.L.Ledger g.L.Ledger-dict κs)
 captured_send g κs sn yn yg sl = search (arg_send, recorded_send, struct_send, shr_send, mut_send, mut_slice_send, option_send, round_sync, seated_crosses.the_send, steps_crosses.the_send, std.sync) depth 20
 
@@ -92,9 +92,9 @@ split-rest-requires-clause-share g t c κs within =
 pub returns-then-count-eq0-clause-visited : goal.returns-then-count-eq0-clause-visited
 returns-then-count-eq0-clause-visited g t c one is =
     let came : c.args.seat.now ≡ Some c.in-Some.all = sym c.take.ensures.value ∙ c.in-Some.is in
-    subst (λ (s : BackupSeat _). HasCrewVisited c.args.round.now.backups.now (length c.args.steps.now) s c.in_ok-worker.backup) (some-is c.in-Some.all one (sym came ∙ is))
-    (crew-alone c.args.round.now.backups.now (length c.args.steps.now) c.in-Some.all c.in_ok-worker.backup
-    (c.in_ok-worker.ensures.visited (record { worker = c.in-Some-pop.worker; backup = c.in-Some.all }) refl))
+    subst (λ (s : BackupSeat _). HasCrewVisited c.args.round.now.backups.now (length c.args.steps.now) s c.in_ok-alone.alone.backup) (some-is c.in-Some.all one (sym came ∙ is))
+    (crew-alone c.args.round.now.backups.now (length c.args.steps.now) c.in-Some.all c.in_ok-alone.alone.backup
+    (c.in_ok-alone.ensures.visited (record { worker = c.in-Some-pop.worker; backup = c.in-Some.all }) refl))
 
 pub returns-then-count-eq0-clause-ticks : goal.returns-then-count-eq0-clause-ticks
 returns-then-count-eq0-clause-ticks g t c =
@@ -106,9 +106,9 @@ returns-then-count-eq0-clause-ticks g t c =
       rises = λ tally.
           (let nothing : RisesWithin (crew_steps tally c.pop.new.self.items + visit_steps tally reps from []) (crew_steps tally c.pop.new.self.items + visit_steps tally reps to []) (sum others) (sum others) =
           omega arith in
-          crew-more g.N.World.design g.N.World.plan tally reps from to c.args.workers.now.items c.pop.new.self.items c.pop.new.self.items c.push.new.self.items c.in-Some-pop.worker c.in_ok-worker.worker
-          (visited_by c.in_ok-worker.backup) [] (visited_by c.in_ok-worker.backup) c.args.steps.now others c.split_at_mut-others.result.1.now others c.work_alone.new.mine
-          c.in-Some-pop.ensures.items c.in_ok-push.ensures.items refl c.split_at_mut-others.ensures.value (c.in_ok-worker.ensures.ticks.rises tally) nothing);
+          crew-more g.N.World.design g.N.World.plan tally reps from to c.args.workers.now.items c.pop.new.self.items c.pop.new.self.items c.push.new.self.items c.in-Some-pop.worker c.in_ok-alone.alone.worker
+          (visited_by c.in_ok-alone.alone.backup) [] (visited_by c.in_ok-alone.alone.backup) c.args.steps.now others c.split_at_mut-others.result.1.now others c.work_alone.new.mine
+          c.in-Some-pop.ensures.items c.in_ok-push.ensures.items refl c.split_at_mut-others.ensures.value (c.in_ok-alone.ensures.ticks.rises tally) nothing);
     }
 
 pub returns-clause-through : goal.returns-clause-through
@@ -120,12 +120,12 @@ returns-clause-through g t c =
     omega (arith, c.split_at_mut-others.ensures.front_len, c.len-count.ensures, c.pop.new.self.ok.0, last.0) in
     let others : AreWorkersAt (representatives_of c.args.round.now.shards.now) c.args.round.now.board.now c.args.round.now.window.now.through
     (length c.split_at_mut-others.result.0.now) c.workers-1.given.0.items = search rules in
-    let mine : IsWorkerAt (representatives_of c.args.round.now.shards.now) c.args.round.now.board.now c.args.round.now.window.now.through c.in_ok-worker-2.worker = search rules in
+    let mine : IsWorkerAt (representatives_of c.args.round.now.shards.now) c.args.round.now.board.now c.args.round.now.window.now.through c.in_ok-came.came.worker = search rules in
     subst (AreWorkersAt (representatives_of c.args.round.now.shards.now) c.args.round.now.board.now c.args.round.now.window.now.through (length c.args.steps.now)) (sym c.in_ok-push-2.ensures.items)
     (subst (λ n. AreWorkersAt (representatives_of c.args.round.now.shards.now) c.args.round.now.board.now c.args.round.now.window.now.through n
-    (c.workers-1.given.0.items ++ c.in_ok-worker-2.worker ∷ [])) count
+    (c.workers-1.given.0.items ++ c.in_ok-came.came.worker ∷ [])) count
     (workers-more (representatives_of c.args.round.now.shards.now) c.args.round.now.board.now c.args.round.now.window.now.through (length c.split_at_mut-others.result.0.now)
-    c.workers-1.given.0.items c.in_ok-worker-2.worker others mine))
+    c.workers-1.given.0.items c.in_ok-came.came.worker others mine))
 
 pub returns-clause-visited : goal.returns-clause-visited
 returns-clause-visited g t c one is =
@@ -138,10 +138,10 @@ returns-clause-visited g t c one is =
     let count : length c.split_at_mut-others.result.0.now + 1 ≡ length c.args.steps.now =
     omega (arith, c.split_at_mut-others.ensures.front_len, c.len-count.ensures, c.pop.new.self.ok.0, last.0) in
     let more : 1 < length c.args.steps.now = omega (arith, last.0, c.if-count-eq0.false, c.len-count.ensures, c.pop.new.self.ok.0) in
-    let mine : (own : Seated _) → Some (record { worker = c.in-Some-pop.worker; backup = c.split-rest.result.1 }) ≡ Some own → HasVisited backups own.backup c.in_ok-worker-2.backup = search rules in
+    let mine : (own : Seated _) → Some (record { worker = c.in-Some-pop.worker; backup = c.split-rest.result.1 }) ≡ Some own → HasVisited backups own.backup c.in_ok-came.came.backup = search rules in
     let others : (own : BackupSeat _) → Some c.split-rest.result.0 ≡ Some own → HasCrewVisited backups (length c.split_at_mut-others.result.0.now) own c.in_ok-rest.rest = search rules in
     subst (λ (s : BackupSeat _). HasCrewVisited backups (length c.args.steps.now) s c.join.result) (some-is c.in-Some.all one (sym came ∙ is))
-    (crew-joined backups (length c.args.steps.now) (length c.split_at_mut-others.result.0.now) c.in-Some.all c.split-rest.result.0 c.split-rest.result.1 c.in_ok-rest.rest c.in_ok-worker-2.backup
+    (crew-joined backups (length c.args.steps.now) (length c.split_at_mut-others.result.0.now) c.in-Some.all c.split-rest.result.0 c.split-rest.result.1 c.in_ok-rest.rest c.in_ok-came.came.backup
     c.join.result count more seat c.split-rest.ensures.old c.split-rest.ensures.new (others c.split-rest.result.0 refl)
     (mine (record { worker = c.in-Some-pop.worker; backup = c.split-rest.result.1 }) refl) c.join.ensures.own c.join.ensures.both)
 
@@ -151,12 +151,12 @@ returns-clause-ticks g t c =
     let from = c.args.round.now.window.now.before in
     let to = c.args.round.now.window.now.through in
     let mine : WorkerRose g.N.World.design g.N.World.plan reps from to (Some (record { worker = c.in-Some-pop.worker; backup = c.split-rest.result.1 }))
-    (record { worker = c.in_ok-worker-2.worker; backup = c.in_ok-worker-2.backup }) c.split_at_mut-others.result.1.now c.mine-2-1.given.0 = search rules in
+    c.in_ok-came.came c.split_at_mut-others.result.1.now c.mine-2-1.given.0 = search rules in
     let others : CrewRose g.N.World.design g.N.World.plan reps from to c.pop.new.self.items c.workers-1.given.0.items c.in_ok-rest.rest
     c.split_at_mut-others.result.0.now c.others-1.given.0 = search rules in record {
       rises = λ tally.
           crew-more g.N.World.design g.N.World.plan tally reps from to c.args.workers.now.items c.pop.new.self.items c.workers-1.given.0.items c.push-2.new.self.items c.in-Some-pop.worker
-          c.in_ok-worker-2.worker (visited_by c.in_ok-worker-2.backup) (visited_by c.in_ok-rest.rest) (visited_by c.join.result) c.args.steps.now c.split_at_mut-others.result.0.now
+          c.in_ok-came.came.worker (visited_by c.in_ok-came.came.backup) (visited_by c.in_ok-rest.rest) (visited_by c.join.result) c.args.steps.now c.split_at_mut-others.result.0.now
           c.split_at_mut-others.result.1.now c.others-1.given.0 c.mine-2-1.given.0 c.in-Some-pop.ensures.items c.in_ok-push-2.ensures.items (ap (λ (v : View). v.claimed) c.join.ensures.both)
           c.split_at_mut-others.ensures.value (mine.rises tally) (others.rises tally);
     }

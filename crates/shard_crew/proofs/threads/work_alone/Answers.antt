@@ -1,6 +1,5 @@
 -- The worker that is there, and the one counter.
-use Rattle.std.proofs.Common.{◌≡◌, Some, sym, ap, subst, ◌∙◌}
-use Rattle.std.specs.Prelude.{Option}
+use Rattle.std.proofs.Common.{◌≡◌, Some, sym, subst, ◌∙◌}
 use Rattle.fault_shards.specs.Shards.{representatives_of}
 use Rattle.shard_claims.specs.Workers.{HasVisited}
 use Rattle.shard_claims.specs.declared.worker.Seated.{Seated}

@@ -16,7 +16,7 @@ use Rattle.shard_rounds.proofs.step.go_round.Given.{Over}
 use Rattle.shard_rounds.proofs.step.go_round.Lts.{arg-0-1}
 use Rattle.shard_rounds.proofs.step.go_round.Goals as goal
 
-captured_send : (g : Over) (κs : Lfts 19) → IsSend (param 0 g.row.N) → IsSync (param 0 g.row.N) → IsSync (param 1 g.row.R) → IsSync (param 2 g.row.G) → IsSend (param 3 g.row.L) →
+captured_send : (g : Over) (κs : Lfts 20) → IsSend (param 0 g.row.N) → IsSync (param 0 g.row.N) → IsSync (param 1 g.row.R) → IsSync (param 2 g.row.G) → IsSend (param 3 g.row.L) →
     IsSend (arg-0-1 g.row.N g.row.R g.row.G g.row.L g.N.laws g.R.laws g.G.laws g.L.laws g.N.World g.N.World-dict g.R.Threads g.R.Threads-dict g.G.Gate g.G.Gate-dict
     g.L.Ledger g.L.Ledger-dict κs)
 captured_send g κs sn yn yr yg sl = search (arg_send, recorded_send, struct_send, shr_send, mut_send, mut_slice_send, option_send, round_sync, worker_crosses.the_send, seat_crosses.the_send, steps_crosses.the_send, std.sync, std.Vec-send) depth 20

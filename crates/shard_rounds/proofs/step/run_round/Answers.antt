@@ -1,5 +1,5 @@
 -- All slots are visited, each once.
-use Rattle.std.proofs.Common.{◌≡◌, ℕ, ◌<◌, ◌≤◌, length, refl, ap, sym, subst, ◌∙◌, arith}
+use Rattle.std.proofs.Common.{length, refl, ap, sym, subst, ◌∙◌, arith}
 use Rattle.std.specs.List.{All}
 use Rattle.fault_shards.specs.Shards.{representatives_of}
 use Rattle.shard_crew.specs.Crews.{IsCrewSeat}

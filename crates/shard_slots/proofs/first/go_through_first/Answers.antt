@@ -62,7 +62,7 @@ go_beside-requires-clause-begins g c κs within =
     let w = c.view_of-view.result.window.now in
     begin-each g.N.World.design g.N.World.plan w.before w.through 0 c.args.faults.now.items c.in_ok-ats.ats.items c.in_ok-besides.besides.items
     (all-entered g.N.World.design g.N.World.plan c.args.run.now w c.args.strobes.now.passed c.len.result c.args.faults.now.items _ c.in_ok-ats.ats.items c.in_ok-besides.besides.items
-    c.view_of-view.ensures.window c.requires.first c.requires.one c.requires.more c.requires.strobes.has_passed c.requires.faults c.deref.ensures.value (omega (arith, c.len.ensures)) c.in_ok-ats.ensures
+    c.view_of-view.ensures.window c.requires.first c.requires.one c.requires.more c.requires.strobes.has_passed c.requires.faults c.deref.ensures.value (omega (arith, c.len.ensures, c.args.faults.now.ok.0)) c.in_ok-ats.ensures
     c.in_ok-besides.ensures.entered)
 
 pub go_beside-requires-clause-sites : goal.go_beside-requires-clause-sites
@@ -70,7 +70,7 @@ go_beside-requires-clause-sites g c κs within =
     let w = c.view_of-view.result.window.now in
     sites g.N.World.design g.N.World.plan w.before w.through 0 c.args.faults.now.items c.in_ok-ats.ats.items c.in_ok-besides.besides.items
     (all-entered g.N.World.design g.N.World.plan c.args.run.now w c.args.strobes.now.passed c.len.result c.args.faults.now.items _ c.in_ok-ats.ats.items c.in_ok-besides.besides.items
-    c.view_of-view.ensures.window c.requires.first c.requires.one c.requires.more c.requires.strobes.has_passed c.requires.faults c.deref.ensures.value (omega (arith, c.len.ensures)) c.in_ok-ats.ensures
+    c.view_of-view.ensures.window c.requires.first c.requires.one c.requires.more c.requires.strobes.has_passed c.requires.faults c.deref.ensures.value (omega (arith, c.len.ensures, c.args.faults.now.ok.0)) c.in_ok-ats.ensures
     c.in_ok-besides.ensures.entered)
     c.searches_begin.ensures c.plan-plan.ensures.fits
 
@@ -100,7 +100,7 @@ leave_each-requires-clause-gone g c κs within =
     let w = c.view_of-view.result.window.now in
     have-gone g.N.World.design g.N.World.plan w.before w.through 0 c.args.faults.now.items c.in_ok-ats.ats.items c.in_ok-besides.besides.items c.go_beside.new.besides.items
     (all-entered g.N.World.design g.N.World.plan c.args.run.now w c.args.strobes.now.passed c.len.result c.args.faults.now.items _ c.in_ok-ats.ats.items c.in_ok-besides.besides.items
-    c.view_of-view.ensures.window c.requires.first c.requires.one c.requires.more c.requires.strobes.has_passed c.requires.faults c.deref.ensures.value (omega (arith, c.len.ensures)) c.in_ok-ats.ensures
+    c.view_of-view.ensures.window c.requires.first c.requires.one c.requires.more c.requires.strobes.has_passed c.requires.faults c.deref.ensures.value (omega (arith, c.len.ensures, c.args.faults.now.ok.0)) c.in_ok-ats.ensures
     c.in_ok-besides.ensures.entered)
     c.in_ok-go_beside.ensures.besides
 
@@ -132,7 +132,7 @@ returns-clause-ticks g c tally =
     let same = ap (λ (n : ℕ). steps_of_faults tally n c.args.faults.now.items) here in
     let none = none-ticked design plan w.before w.through 0 c.args.faults.now.items c.in_ok-ats.ats.items c.in_ok-besides.besides.items
     (all-entered design plan c.args.run.now w c.args.strobes.now.passed c.len.result c.args.faults.now.items _ c.in_ok-ats.ats.items c.in_ok-besides.besides.items
-    c.view_of-view.ensures.window c.requires.first c.requires.one c.requires.more c.requires.strobes.has_passed c.requires.faults c.deref.ensures.value (omega (arith, c.len.ensures)) c.in_ok-ats.ensures
+    c.view_of-view.ensures.window c.requires.first c.requires.one c.requires.more c.requires.strobes.has_passed c.requires.faults c.deref.ensures.value (omega (arith, c.len.ensures, c.args.faults.now.ok.0)) c.in_ok-ats.ensures
     c.in_ok-besides.ensures.entered) in
     subst (λ (n : ℕ). RisesWithin (steps_of_faults tally c.args.run.now.before c.args.faults.now.items) (steps_of_faults tally n c.leave_each.new.faults.items) c.args.steps.now c.leave_each.new.steps)
     there

@@ -10,8 +10,8 @@ use Rattle.copy_shard.proofs.Copies.{differences-same_each, found-same, is-shard
 use Rattle.copy_shard.proofs.Standing.{all-stand}
 use Rattle.copy_shard.proofs.shard.Shard.copy.Goals as goal
 
-pub copied_faults-requires-after_bounds : goal.copied_faults-requires-after_bounds
-copied_faults-requires-after_bounds g c κs within = subst (AllHold (λ (own : ShardFault). kept_by own ≡ false)) (sym c.deref-2.ensures.value) c.self.invariant.judged
+pub copied_faults-requires : goal.copied_faults-requires
+copied_faults-requires g c = subst (AllHold (λ (own : ShardFault). kept_by own ≡ false)) (sym c.deref-2.ensures.value) c.self.invariant.judged
 
 pub invariant_of-result : goal.invariant_of-result
 invariant_of-result g c =
