@@ -1,8 +1,7 @@
 -- Faults by their numbers, a setup's design, and findings (nothing of the language).
-use Rattle.std.proofs.Common.{◌≡◌, ℕ, ◌≤◌, List, [], ◌∷◌, map, refl, ap, sym, subst, ◌∙◌, suc, zero, arith}
+use Rattle.std.proofs.Common.{◌≡◌, ℕ, ◌≤◌, List, [], ◌∷◌, map, refl, ap, sym, subst, suc, zero, arith}
 use Rattle.std.specs.Prelude.{Option, Some, None, option_map}
-use Rattle.std.specs.List.{All, Contains, cons_option}
-use Rattle.std.proofs.lemmas.List.Elements.{All-contains, All-contains_itself, All-weaker, Contains-append_left, Contains-append_right}
+use Rattle.std.specs.List.{Contains, cons_option}
 use Rattle.vf_base.specs.Base.{fault_number}
 use Rattle.vf_base.specs.declared.ids.FaultId.{FaultId}
 use Rattle.vf_base.specs.declared.finding.End.{End}

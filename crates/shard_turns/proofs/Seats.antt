@@ -1,6 +1,6 @@
 -- The seats of a round's backups (nothing of the language).
-use Rattle.std.proofs.Common.{◌≡◌, ℕ, ◌+◌, ◌<◌, ◌≤◌, IsTrue, List, [], refl, sym, ap, subst, ◌∙◌, arith}
-use Rattle.verdict_words.specs.Seats.{view, IsSeatOf}
+use Rattle.std.proofs.Common.{ℕ, ◌≤◌, List, refl, sym, ap, subst, ◌∙◌}
+use Rattle.verdict_words.specs.Seats.{IsSeatOf}
 use Rattle.verdict_words.specs.Views.{lent_share}
 use Rattle.verdict_words.specs.declared.board.Board.{Board}
 use Rattle.verdict_words.specs.declared.board.Seat.{Seat}

@@ -1,8 +1,8 @@
 -- The own steps of faults behind more slots (steps by IEEE 1364-2001, clause 9; slots by clause 5).
-use Rattle.std.proofs.Common.{◌≡◌, ℕ, ◌+◌, ◌<◌, ◌≤◌, Bool, true, false, List, [], ◌∷◌, ◌++◌, map, length, refl, sym, ap, subst, ◌∙◌, arith}
+use Rattle.std.proofs.Common.{◌≡◌, ℕ, ◌+◌, ◌≤◌, false, List, [], ◌∷◌, ◌++◌, refl, sym, ap, ◌∙◌, arith}
 use Rattle.std.specs.Prelude.{Some, slice_get, sum_by}
 use Rattle.std.specs.List.{All, Contains}
-use Rattle.std.proofs.lemmas.List.Elements.{All-contains, All-contains_itself, All-head, All-tail, All-weaker}
+use Rattle.std.proofs.lemmas.List.Elements.{All-contains_itself, All-head, All-tail, All-weaker}
 use Rattle.std.proofs.lemmas.List.Sums.{sum_by-append, sum_by-cons, sum_by_push}
 use Rattle.vf_base.specs.Lists.{AllHold}
 use Rattle.v_design.specs.Designs.{FlatDesign, StuckAt, TestPlan}
@@ -12,7 +12,7 @@ use Rattle.fault_shards.specs.Representatives.{AreRepresentatives}
 use Rattle.own_gradings.specs.Laws.{OwnStepsRise}
 use Rattle.own_gradings.specs.Numbers.{OwnStepsOf}
 use Rattle.copy_shard.specs.Shards.{FaultKept, FaultStands, ShardKept, StandsBeside, fault_steps_at, places_of, shard_steps}
-use Rattle.copy_shard.proofs.Ticks.{of-places, same-sums}
+use Rattle.copy_shard.proofs.Ticks.{of-places}
 use Rattle.shard_turns.specs.Turns.{HasDone}
 use Rattle.shard_turns.specs.Visits.{StandsBefore, faults_steps, visit_steps}
 

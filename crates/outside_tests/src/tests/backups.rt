@@ -107,7 +107,7 @@ fn a_worker_runs_a_copy_of_anothers_shard(rt: HostRuntime) -> Result<(), Fail> {
         output: b"",
     };
     let blank = Blank::new(COUNTERS);
-    let (status, held) = answered::<Brand, _, _>(&rt, rt.alloc(), blank, &run, 1, None, &gate)?;
+    let (status, held) = answered::<Brand, _, _>(&rt, rt.alloc(), blank, &run, 0, None, &gate)?;
     assert_eq!(rt; code(&status), 0);
     assert!(rt; held.as_slice().ends_with(LAST));
     assert!(rt; gate.met.load(Ordering::SeqCst));

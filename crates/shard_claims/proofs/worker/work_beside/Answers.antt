@@ -1,5 +1,5 @@
 -- The worker has claimed, and its seat settles more words.
-use Rattle.std.proofs.Common.{◌≡◌, ◌<◌, subst, refl, arith}
+use Rattle.std.proofs.Common.{◌<◌, subst, refl, arith}
 use Rattle.copy_laws.specs.Windows.{IsWindow}
 use Rattle.good_trace.specs.Traces.{WindowKept}
 use Rattle.fault_shards.specs.Shards.{representatives_of}

@@ -1,5 +1,5 @@
 -- What the worker's own shards take, and then those of the slots.
-use Rattle.std.proofs.Common.{◌≡◌, sym, ap, ◌∙◌, arith}
+use Rattle.std.proofs.Common.{arith}
 use Rattle.shard_turns.proofs.Seats.{fresh-stays, visited-on}
 use Rattle.shard_claims.proofs.worker.work_in.Goals as goal
 

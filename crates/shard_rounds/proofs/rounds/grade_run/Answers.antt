@@ -44,7 +44,7 @@ returns-in_ok-gathered-in-All-clause-good g c =
     let first = c.in_ok-window.ensures.ticks in
     omega (arith, first, c.in_ok-ended.ensures.good)
 
-pub returns-in-Loops-2-clause-good : goal.returns-in-Loops-2-clause-good
-returns-in-Loops-2-clause-good g c =
+pub returns-in-Loops-ended-clause-good : goal.returns-in-Loops-2-clause-good
+returns-in-Loops-ended-clause-good g c =
     let first = c.in_ok-window.ensures.ticks in
     omega (arith, first, c.in_ok-ended.ensures.good)

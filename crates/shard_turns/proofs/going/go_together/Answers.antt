@@ -1,7 +1,6 @@
 -- Those that went are behind the others.
-use Rattle.std.proofs.Common.{◌≡◌, ◌+◌, ◌++◌, sym, ap, ◌∙◌, arith}
+use Rattle.std.proofs.Common.{◌++◌, ap, ◌∙◌, arith}
 use Rattle.fault_shards.specs.Shards.{representatives_of}
-use Rattle.copy_shard.specs.Together.{claimed_steps}
 use Rattle.shard_turns.specs.Claims.{IsClaimed, numbers_of}
 use Rattle.shard_turns.proofs.Keeping.{all-both, all-claimed, all-none, behind-nothing, numbers-both, numbers-stay, steps-both, steps-none}
 use Rattle.shard_turns.proofs.going.go_together.Goals as goal

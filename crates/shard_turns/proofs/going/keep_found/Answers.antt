@@ -1,10 +1,8 @@
 -- The shard that was found stands in place of the worker's own one.
-use Rattle.std.proofs.Common.{◌≡◌, ◌+◌, ◌∷◌, ◌++◌, [], refl, sym, ap, ◌∙◌, arith}
+use Rattle.std.proofs.Common.{◌∷◌, ◌++◌, [], refl, sym, ap, ◌∙◌, arith}
 use Rattle.fault_shards.specs.Shards.{representatives_of}
-use Rattle.copy_shard.specs.Together.{claimed_steps}
 use Rattle.shard_turns.specs.Claims.{IsClaimed, numbers_of}
-use Rattle.shard_turns.specs.Going.{going_numbers}
-use Rattle.shard_turns.proofs.Keeping.{all-more, behind-nothing, found-claimed, numbers-more, steps-more, steps-none}
+use Rattle.shard_turns.proofs.Keeping.{all-more, behind-nothing, found-claimed, numbers-more, steps-more}
 use Rattle.shard_turns.proofs.going.keep_found.Goals as goal
 
 pub found_behind-requires-clause-at : goal.found_behind-requires-clause-at

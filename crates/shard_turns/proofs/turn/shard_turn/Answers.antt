@@ -1,5 +1,5 @@
 -- The shard that was found stands beside the good first run by itself.
-use Rattle.std.proofs.Common.{◌≤◌, arith}
+use Rattle.std.proofs.Common.{arith}
 use Rattle.shard_turns.proofs.turn.shard_turn.Goals as goal
 
 pub returns-in-Some-clause-behind : goal.returns-in-Some-clause-behind

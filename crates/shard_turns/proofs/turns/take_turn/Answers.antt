@@ -1,5 +1,5 @@
 -- The shard goes next, or the one that was found stands in its place.
-use Rattle.std.proofs.Common.{◌≡◌, ◌+◌, ◌<◌, ◌∷◌, ◌++◌, [], refl, sym, ap, subst, ◌∙◌, arith}
+use Rattle.std.proofs.Common.{◌<◌, ◌++◌, sym, ap, subst, ◌∙◌, arith}
 use Rattle.fault_shards.specs.Shards.{representatives_of}
 use Rattle.shard_turns.specs.Claims.{IsClaimed, numbers_of}
 use Rattle.shard_turns.proofs.Keeping.{all-more, numbers-more, one-behind, steps-more}

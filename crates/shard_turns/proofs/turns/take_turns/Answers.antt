@@ -1,7 +1,6 @@
 -- Group by group.
-use Rattle.std.proofs.Common.{◌≡◌, ◌+◌, ◌<◌, ◌≤◌, ◌++◌, [], List, length, take, drop, refl, ap, sym, subst, ◌∙◌, append_assoc, arith}
+use Rattle.std.proofs.Common.{◌<◌, ◌++◌, List, length, refl, ap, sym, ◌∙◌, append_assoc, arith}
 use Rattle.fault_shards.specs.Shards.{representatives_of}
-use Rattle.copy_shard.specs.Together.{claimed_steps}
 use Rattle.copy_shard.specs.declared.together.ClaimedShard.{ClaimedShard}
 use Rattle.shard_turns.specs.Claims.{IsClaimed, numbers_of}
 use Rattle.shard_turns.proofs.Keeping.{all-first, all-none, all-rest, behind-nothing, fewer-left, no-shard, numbers-both, parts-are, steps-both, steps-none}

@@ -1,8 +1,7 @@
 -- The copy went through the window, or is left as it was.
-use Rattle.std.proofs.Common.{◌≤◌, true, sym, arith}
+use Rattle.std.proofs.Common.{arith}
 use Rattle.fault_shards.specs.Shards.{representatives_of}
 use Rattle.shard_turns.proofs.Seats.{settles-none}
-use Rattle.shard_turns.proofs.Steps.{copy-rises}
 use Rattle.shard_turns.proofs.visits.run_copy.Goals as goal
 
 pub returns-then-not-stands_before-clause-seat : goal.returns-then-not-stands_before-clause-seat

@@ -1,12 +1,11 @@
 -- Visit by visit.
-use Rattle.std.proofs.Common.{◌≡◌, ℕ, ◌+◌, ◌<◌, ◌≤◌, Option, IfSome, IfNone, refl, ap, sym, subst, ◌∙◌, arith}
-use Rattle.fault_shards.specs.Cuts.{shard}
+use Rattle.std.proofs.Common.{◌≡◌, ℕ, ◌+◌, ◌<◌, ◌≤◌, Option, IfSome, IfNone, refl, ap, subst, ◌∙◌, arith}
 use Rattle.fault_shards.specs.Shards.{representatives_of}
 use Rattle.verdict_words.specs.Seats.{view}
 use Rattle.verdict_words.specs.Views.{lent_share, with_claim, with_none}
 use Rattle.verdict_words.specs.declared.view.View.{View}
 use Rattle.shard_turns.specs.Backups.{visited_by, visits_in}
-use Rattle.shard_turns.specs.Visits.{faults_steps, visit_steps}
+use Rattle.shard_turns.specs.Visits.{visit_steps}
 use Rattle.shard_turns.proofs.Seats.{settles-none, settles-on}
 use Rattle.shard_turns.proofs.Steps.{visits-more, visits-none}
 use Rattle.shard_turns.proofs.visits.visit_slots.Goals as goal

@@ -1,8 +1,7 @@
 -- Each slot was visited once.
 use Rattle.std.proofs.Common.{◌≡◌, ℕ, ap, subst, ◌∙◌}
-use Rattle.verdict_words.specs.Last.{last_view, sizes_of}
+use Rattle.verdict_words.specs.Last.{sizes_of}
 use Rattle.verdict_words.specs.Rule.{once_below, times}
-use Rattle.verdict_words.specs.Seats.{view}
 use Rattle.verdict_words.specs.declared.rule.Sizes.{Sizes}
 use Rattle.verdict_words.specs.declared.view.View.{View}
 use Rattle.shard_turns.specs.Backups.{visited_by, visits_in}
