@@ -20,7 +20,7 @@ use Rattle.verdict_settle.specs.HarvestLaws.{nothing-in, harvest-start, harvest-
 use Rattle.copy_laws.specs.Windows.{good_slots}
 use Rattle.shard_claims.specs.copy_shard.Shards.{places_of}
 use Rattle.shard_claims.specs.copy_shard.declared.together.ClaimedShard.{ClaimedShard}
-use Rattle.shard_claims.specs.Workers.{numbers_of, IsClaimed, KeepsShards, HasClaimed, MovesListed}
+use Rattle.shard_claims.specs.Workers.{numbers_of, IsClaimed, KeepsShards, HasClaimed}
 use Rattle.shard_crew.specs.Crews.{places_in, IsFoundShard, HaveGone, HasGathered, IsRest}
 use Rattle.shard_crew.specs.declared.gathered.Gathered.{Gathered}
 use Rattle.shard_claims.specs.WorkerLaws.{keeps-none, keeps-both}
@@ -31,10 +31,6 @@ listed-in representatives [] cover fault c = nothing-in fault c
 listed-in representatives (claim ∷ claims) cover fault c =
     ⊎_elim (λ here. cover.within representatives claim fault here) (λ later. listed-in representatives claims cover fault later)
     (Contains-append_cases (shard claim representatives) (claimed_faults representatives claims) fault c)
-
--- before the first fault, where words of representatives alone were moved
-harvest-moved : (design : FlatDesign) (plan : TestPlan) (representatives : List ℕ) (v : View) → MovesListed representatives v.moved → IsHarvest design plan representatives [] v []
-harvest-moved design plan representatives v moved = record { graded = All-nil (IsFinding design plan); complete = λ fault h. nothing-in fault h; moved = moved }
 
 module _ {N : Type 0} where
   -- the faults of shards are those of their claims
@@ -68,7 +64,7 @@ module _ {N : Type 0} where
     dry = claims.dry ∙ h.dry;
     harvest =
         subst (λ (l : List ℕ). IsHarvest design plan representatives l (view after.seat) after.findings.items) (all ∙ sym (ap (claimed_faults representatives) claims.claimed))
-        (harvest-settled design plan representatives [] (view seat) (view after.seat) [] after.findings.items (harvest-moved design plan representatives (view seat) h.moved) graded
+        (harvest-settled design plan representatives [] (view seat) (view after.seat) [] after.findings.items (harvest-start design plan representatives (view seat) h.moved) graded
         (λ fault c. listed-in representatives (view seat).claimed cover fault (subst (λ l. Contains l fault) all c)) settled);
     keeps = record { claimed = claims.claimed ∙ h.keeps.claimed; each = h.keeps.each };
     found = each;

@@ -1,8 +1,6 @@
 -- Workers as they are hired, and as they come back.
-use Rattle.std.proofs.Common.{◌≡◌, ℕ, ◌+◌, ◌*◌, ◌-◌, ◌^◌, ◌<◌, List, [], ◌∷◌, ◌++◌, length, refl, sym, ap, subst, ◌∙◌, arith, length-append}
-use Rattle.std.specs.List.{All, range_with_len}
-use Rattle.std.proofs.lemmas.List.{map-append, map-id}
-use Rattle.std.proofs.lemmas.List.FromFn.{map-range_with_len_more}
+use Rattle.std.proofs.Common.{◌≡◌, ℕ, ◌+◌, ◌*◌, ◌-◌, ◌^◌, ◌<◌, List, [], ◌∷◌, ◌++◌, length, refl, ap, subst, ◌∙◌, arith, length-append}
+use Rattle.std.specs.List.{All}
 use Rattle.std.specs.Prelude.{IfOk, MatchOption, None, Ok, Option, Result, Some, vec_len}
 use Rattle.std.specs.Global.{Global}
 use Rattle.std.specs.declared.vec.Vec.{Vec}
@@ -14,14 +12,8 @@ use Rattle.verdict_words.specs.declared.board.Seat.{Seat}
 use Rattle.verdict_words.specs.declared.view.View.{View}
 use Rattle.shard_claims.specs.declared.worker.Worker.{Worker}
 use Rattle.shard_claims.specs.Workers.{IsNewSeat, IsWorkerAt}
-use Rattle.shard_crew.specs.Crews.{AreWorkersAt, IsRest, worker_numbers}
+use Rattle.shard_crew.specs.Crews.{AreWorkersAt, IsRest}
 use Rattle.vf_base.specs.declared.text.NoMemory.{NoMemory}
-
--- numbers from 0, one more
-numbers-on : (count : ℕ) → range_with_len 0 (count + 1) ≡ range_with_len 0 count ++ count ∷ []
-numbers-on count =
-    sym (map-id (range_with_len 0 (count + 1)))
-    ∙ (map-range_with_len_more (λ (n : ℕ). n) 0 count count (omega arith) ∙ ap (λ (l : List ℕ). l ++ count ∷ []) (map-id (range_with_len 0 count)))
 
 module _ {N : Type 0} where
   -- a seat that is split off
@@ -72,13 +64,6 @@ module _ {N : Type 0} where
     count_is = (let c : length workers ≡ count = are.count_is in let l : length (workers ++ worker ∷ []) ≡ length workers + 1 = length-append workers (worker ∷ []) in omega (arith, c, l));
     each = All-push (IsWorkerAt representatives board gone) workers worker are.each is;
   }
-
-  -- which has the next number
-  pub numbers-more : (workers : List (Worker N)) (worker : Worker N) (count : ℕ) → worker_numbers workers ≡ range_with_len 0 count → worker.number ≡ count →
-      worker_numbers (workers ++ worker ∷ []) ≡ range_with_len 0 (count + 1)
-  numbers-more workers worker count are is =
-      map-append (λ (w : Worker N). w.number) workers (worker ∷ [])
-      ∙ (ap (λ (l : List ℕ). l ++ worker.number ∷ []) are ∙ (ap (λ (n : ℕ). range_with_len 0 count ++ n ∷ []) is ∙ sym (numbers-on count)))
 
   -- no worker
   pub workers-none : (representatives : List ℕ) (board : Board N) (gone : ℕ) → AreWorkersAt representatives board gone 0 []

@@ -1,5 +1,5 @@
 -- The own steps of the faults of all workers (steps by IEEE 1364-2001, clause 9; slots by clause 5).
-use Rattle.std.proofs.Common.{◌≡◌, ℕ, ◌+◌, ◌<◌, ◌≤◌, true, cond, List, [], ◌∷◌, ◌++◌, length, get_or, set, take, refl, sym, ap, subst, ◌∙◌, arith}
+use Rattle.std.proofs.Common.{◌≡◌, ℕ, ◌+◌, ◌<◌, ◌≤◌, Bool, true, false, cond, List, [], ◌∷◌, ◌++◌, length, get_or, set, take, refl, sym, ap, subst, ◌∙◌, arith}
 use Rattle.std.specs.Prelude.{sum, sum_by, Option, None, Some, IsSomeAnd}
 use Rattle.std.proofs.lemmas.List.Sums.{sum_by-append, sum_by_more, sum_by_push}
 use Rattle.v_design.specs.Designs.{FlatDesign, TestPlan}
@@ -8,9 +8,9 @@ use Rattle.shard_claims.specs.graded_steps.Behind.{RisesWithin}
 use Rattle.own_gradings.specs.Numbers.{OwnStepsOf}
 use Rattle.shard_claims.specs.copy_shard.declared.together.ClaimedShard.{ClaimedShard}
 use Rattle.shard_claims.specs.declared.worker.Worker.{Worker}
-use Rattle.shard_claims.specs.declared.worker.Seated.{Seated}
-use Rattle.shard_claims.specs.Workers.{visit_steps, visited_by, worker_steps}
-use Rattle.shard_claims.proofs.shard_turns.Steps.{visits-both, visits-none}
+use Rattle.verdict_words.specs.declared.board.Board.{Board}
+use Rattle.shard_claims.specs.WorkerLaws.{is-new}
+use Rattle.shard_claims.specs.Workers.{IsWorkerAt, worker_steps}
 use Rattle.shard_claims.specs.copy_shard.Together.{claimed_steps}
 use Rattle.shard_crew.specs.Crews.{claimed_most, crew_steps, steps_in}
 
@@ -36,48 +36,44 @@ none-at P found is at = subst (λ (o : Option _). IsSomeAnd o P) is at
 
 module _ {N : Type 0} where
   -- one worker with one counter
-  pub alone-steps : (design : FlatDesign) (plan : TestPlan) (tally : OwnStepsOf design plan) (representatives : List ℕ) (from to : ℕ) (found : Option (Seated N)) (one after : Seated N)
-      (mine : List ℕ) (d new : ℕ) → found ≡ Some one → length mine ≡ 1 →
-      RisesWithin (worker_steps tally one.worker + visit_steps tally representatives from (visited_by after.backup))
-      (worker_steps tally after.worker + visit_steps tally representatives to (visited_by after.backup)) (get_or mine 0 d) new →
-      RisesWithin (steps_in tally found + visit_steps tally representatives from (visited_by after.backup))
-      (worker_steps tally after.worker + visit_steps tally representatives to (visited_by after.backup)) (sum mine) (sum (set mine 0 new))
-  alone-steps design plan tally representatives from to found one after mine d new is count rises =
-      subst (λ (o : Option (Seated N)). RisesWithin (steps_in tally o + visit_steps tally representatives from (visited_by after.backup))
-      (worker_steps tally after.worker + visit_steps tally representatives to (visited_by after.backup)) (sum mine) (sum (set mine 0 new))) (sym is)
-      (alone-rises (worker_steps tally one.worker + visit_steps tally representatives from (visited_by after.backup))
-      (worker_steps tally after.worker + visit_steps tally representatives to (visited_by after.backup)) mine d new count rises)
+  pub alone-steps : (design : FlatDesign) (plan : TestPlan) (tally : OwnStepsOf design plan) (found : Option (Worker N)) (worker after : Worker N) (mine : List ℕ) (d new : ℕ) →
+      found ≡ Some worker → length mine ≡ 1 →
+      RisesWithin (worker_steps tally worker) (worker_steps tally after) (get_or mine 0 d) new →
+      RisesWithin (steps_in tally found) (worker_steps tally after) (sum mine) (sum (set mine 0 new))
+  alone-steps design plan tally found worker after mine d new is one rises =
+      subst (λ (o : Option (Worker N)). RisesWithin (steps_in tally o) (worker_steps tally after) (sum mine) (sum (set mine 0 new))) (sym is)
+      (alone-rises (worker_steps tally worker) (worker_steps tally after) mine d new one rises)
 
   -- no worker
-  pub nothing-rises : (design : FlatDesign) (plan : TestPlan) (tally : OwnStepsOf design plan) (representatives : List ℕ) (from to : ℕ) (old new : List (Worker N)) (visited : List ℕ) (counter : ℕ) →
-      length old ≡ 0 → visited ≡ [] →
-      RisesWithin (crew_steps tally old + visit_steps tally representatives from visited) (crew_steps tally new + visit_steps tally representatives to visited) counter counter
-  nothing-rises design plan tally representatives from to old new visited counter none nobody =
-      let zero_steps : crew_steps tally old ≡ 0 = ap (crew_steps tally) (none-length old none) in
-      let no_visit : visit_steps tally representatives from visited ≡ 0 = visits-none design plan tally representatives from visited nobody in
-      omega (arith, zero_steps, no_visit)
+  pub nothing-rises : (design : FlatDesign) (plan : TestPlan) (tally : OwnStepsOf design plan) (old new : List (Worker N)) (counter : ℕ) → length old ≡ 0 →
+      RisesWithin (crew_steps tally old) (crew_steps tally new) counter counter
+  nothing-rises design plan tally old new counter none =
+      let zero_steps : crew_steps tally old ≡ 0 = ap (crew_steps tally) (none-length old none) in omega (arith, zero_steps)
 
   -- one worker beside the others
-  pub crew-more : (design : FlatDesign) (plan : TestPlan) (tally : OwnStepsOf design plan) (representatives : List ℕ) (from to : ℕ) (all before after back : List (Worker N)) (old new : Worker N)
-      (one other both steps front rest front_new rest_new : List ℕ) → all ≡ before ++ old ∷ [] → back ≡ after ++ new ∷ [] → both ≡ other ++ one → steps ≡ front ++ rest →
-      RisesWithin (worker_steps tally old + visit_steps tally representatives from one) (worker_steps tally new + visit_steps tally representatives to one) (sum rest) (sum rest_new) →
-      RisesWithin (crew_steps tally before + visit_steps tally representatives from other) (crew_steps tally after + visit_steps tally representatives to other) (sum front) (sum front_new) →
-      RisesWithin (crew_steps tally all + visit_steps tally representatives from both) (crew_steps tally back + visit_steps tally representatives to both) (sum steps) (sum (front_new ++ rest_new))
-  crew-more design plan tally representatives from to all before after back old new one other both steps front rest front_new rest_new are is visits parts mine others =
+  pub crew-more : (design : FlatDesign) (plan : TestPlan) (tally : OwnStepsOf design plan) (all before after back : List (Worker N)) (old new : Worker N) (steps front rest front_new rest_new : List ℕ) → all ≡ before ++ old ∷ [] →
+      back ≡ after ++ new ∷ [] → steps ≡ front ++ rest → RisesWithin (worker_steps tally old) (worker_steps tally new) (sum rest) (sum rest_new) →
+      RisesWithin (crew_steps tally before) (crew_steps tally after) (sum front) (sum front_new) →
+      RisesWithin (crew_steps tally all) (crew_steps tally back) (sum steps) (sum (front_new ++ rest_new))
+  crew-more design plan tally all before after back old new steps front rest front_new rest_new are is parts one others =
       let a : crew_steps tally all ≡ crew_steps tally before + worker_steps tally old = ap (crew_steps tally) are ∙ sum_by_push (worker_steps tally) before old in
       let b : crew_steps tally back ≡ crew_steps tally after + worker_steps tally new = ap (crew_steps tally) is ∙ sum_by_push (worker_steps tally) after new in
       let c : sum steps ≡ sum front + sum rest = ap sum parts ∙ sum_by-append (λ n. n) front rest in
       let d : sum (front_new ++ rest_new) ≡ sum front_new + sum rest_new = sum_by-append (λ n. n) front_new rest_new in
-      let e : visit_steps tally representatives from both ≡ visit_steps tally representatives from other + visit_steps tally representatives from one =
-      visits-both design plan tally representatives from other one both visits in
-      let f : visit_steps tally representatives to both ≡ visit_steps tally representatives to other + visit_steps tally representatives to one =
-      visits-both design plan tally representatives to other one both visits in
-      omega (arith, a, b, c, d, e, f, mine, others)
+      omega (arith, a, b, c, d, one, others)
 
   -- a worker that has claimed
   pub worker-claimed : (design : FlatDesign) (plan : TestPlan) (tally : OwnStepsOf design plan) (worker : Worker N) → worker.dry ≡ true →
       worker_steps tally worker ≡ claimed_steps tally worker.shards.items
   worker-claimed design plan tally worker dry = ap (λ b. cond b (claimed_steps tally worker.shards.items) 0) dry
+
+  -- behind some slots each worker has claimed
+  pub dry-behind : (representatives : List ℕ) (board : Board N) (gone : ℕ) (worker : Worker N) → 0 < gone → IsWorkerAt representatives board gone worker → worker.dry ≡ true
+  dry-behind representatives board gone worker some at = go worker.dry refl
+    where
+      go : (b : Bool) → worker.dry ≡ b → worker.dry ≡ true
+      go true e = e
+      go false e = (let none : gone ≡ 0 = (is-new representatives board gone worker e at).1 in absurd (omega (arith, none, some)))
 
   -- the shards of one worker more
   most-both : (design : FlatDesign) (plan : TestPlan) (tally : OwnStepsOf design plan) (one other both : List (ClaimedShard N)) → both ≡ one ++ other →

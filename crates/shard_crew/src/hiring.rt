@@ -1,10 +1,9 @@
 // The workers before the first round.
 
 ghost use Rattle.std.specs.Prelude.{◌≡◌, ◌≤◌, ℕ, List, IfOk};
-ghost use Rattle.std.specs.List.{range_with_len};
 ghost use Rattle.verdict_words.specs.Seats.{view, IsSeatOf};
 ghost use Rattle.verdict_words.specs.Views.{first_view};
-ghost use Rattle.shard_crew.specs.Crews.{IsRest, AreWorkersAt, worker_numbers};
+ghost use Rattle.shard_crew.specs.Crews.{IsRest, AreWorkersAt};
 
 use shard_claims::Worker;
 use std::alloc::Global;
@@ -12,7 +11,7 @@ use v_design::World;
 use verdict_words::{Board, Seat};
 use vf_base::NoMemory;
 
-/// So many workers, numbered from 0 in order, each with a seat of its own that is split off the first seat of a board; and what is left of that.
+/// So many workers, each with a seat of its own that is split off the first seat of a board; and what is left of that.
 ///
 /// # Errors
 ///
@@ -28,7 +27,6 @@ pub fn hire<N: World>(
     requires few { count ≤ 64 }
     ensures rest { IfOk result (λ hired. IsRest board.now count hired.0) }
     ensures workers { IfOk result (λ hired. (representatives : List ℕ) → AreWorkersAt representatives board.now 0 count hired.1.items) }
-    ensures numbers { IfOk result (λ hired. worker_numbers hired.1.items ≡ range_with_len 0 count) }
 {
     let mut seat = seat;
     let mut workers = Vec::new(alloc);

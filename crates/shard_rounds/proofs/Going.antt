@@ -1,5 +1,5 @@
 -- Round after round (slots by IEEE 1364-2001, clause 5).
-use Rattle.std.proofs.Common.{◌≡◌, ℕ, suc, ◌-◌, ◌<◌, ◌≤◌, true, List, length, sym, subst, ◌∙◌, arith}
+use Rattle.std.proofs.Common.{◌≡◌, ℕ, suc, ◌-◌, ◌<◌, ◌≤◌, true, List, length, sym, subst, ◌∙◌, arith, Result, Ok, IfOk}
 use Rattle.std.proofs.lemmas.Option.{slice_get_within}
 use Rattle.v_design.specs.Designs.{FlatDesign, TestPlan}
 use Rattle.v_design.specs.WellFormed.{KeepsRules}

@@ -1,6 +1,5 @@
 pub mod Going
 pub mod Ticks
-pub mod Backing
 pub use Rattle.shard_crew.proofs as shard_crew
 pub use Rattle.shard_crew.proofs.shard_claims as shard_claims
 pub use Rattle.shard_crew.proofs.copy_shard as copy_shard

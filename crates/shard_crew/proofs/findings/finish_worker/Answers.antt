@@ -9,9 +9,9 @@ use Rattle.verdict_words.specs.Seats.{view}
 use Rattle.verdict_settle.specs.Settling.{AreSettled}
 use Rattle.shard_claims.specs.copy_shard.Together.{claimed_steps}
 use Rattle.shard_crew.specs.Crews.{claimed_most, places_in, HaveGone, IsFoundShard}
-use Rattle.shard_claims.specs.WorkerLaws.{claimed-behind, dry-behind}
+use Rattle.shard_claims.specs.WorkerLaws.{claimed-behind}
 use Rattle.shard_crew.proofs.Gathering.{all-gone, gathers}
-use Rattle.shard_crew.proofs.Ticks.{worker-within}
+use Rattle.shard_crew.proofs.Ticks.{dry-behind, worker-within}
 use Rattle.shard_crew.proofs.findings.finish_worker.Goals as goal
 
 pub findings_in-requires-after_bounds : goal.findings_in-requires-after_bounds
