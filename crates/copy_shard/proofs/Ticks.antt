@@ -37,7 +37,7 @@ module _ {design : FlatDesign} {plan : TestPlan} (tally : OwnStepsOf design plan
       omega (arith, one, rest, a, b)
 
   -- they are of the places alone
-  of-places : (gone : ℕ) (faults : List FaultKept) → sum_by (λ (number : ℕ). tally.steps number false gone) (places_of faults) ≡ sum_by (kept_steps tally gone) faults
+  pub of-places : (gone : ℕ) (faults : List FaultKept) → sum_by (λ (number : ℕ). tally.steps number false gone) (places_of faults) ≡ sum_by (kept_steps tally gone) faults
   of-places gone [] = refl
   of-places gone (kept ∷ faults) =
       sum_by-cons (λ (number : ℕ). tally.steps number false gone) kept.copy.fault (places_of faults)

@@ -1,5 +1,5 @@
 -- What contracts see of a shard, and what stands of it behind so many slots of the good first run (slots by IEEE 1364-2001, clause 5).
-use Rattle.std.specs.Prelude.{◌≡◌, ℕ, true, false, List, map, Option, None, Some, is_some, option_map, slice_get, sum_by}
+use Rattle.std.specs.Prelude.{◌≡◌, ℕ, Bool, true, false, not, List, map, Option, None, Some, is_some, option_map, slice_get, sum_by}
 use Rattle.std.specs.List.{filter_map}
 use Rattle.vf_base.specs.Lists.{AllHold}
 use Rattle.vf_base.specs.declared.finding.End.{End}
@@ -39,6 +39,10 @@ open_fault plan kept = elim kept.end [ None ↦ slice_get plan.faults kept.copy.
 
 abbrev pub open_in : TestPlan → List FaultKept → List StuckAt
 open_in plan faults = filter_map (open_fault plan) faults
+
+-- whether the grading of a fault goes on
+abbrev pub goes_on : FaultKept → Bool
+goes_on kept = not (is_some kept.end)
 
 -- the places of some faults in the plan
 abbrev pub places_of : List FaultKept → List ℕ

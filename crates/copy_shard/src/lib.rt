@@ -8,8 +8,10 @@
 //!
 //! `advance_together` takes the claimed shards of a worker through a window side by side, sixteen at a time, with the same contract for each: so the good machine's states are gone
 //! through once for so many.
+//! `Shard::copy` makes the same shard once more.
 #![tactic(auto)]
 
+mod copied;
 mod shard;
 mod together;
 

@@ -1,7 +1,7 @@
 // A shard of faults.
 
 ghost use Rattle.std.specs.Prelude.{◌≡◌, ◌≢◌, ◌<◌, ◌≤◌, ◌++◌, sum_by, [], All, Contains, IfNone, IfOk, IfSome, OnErr, OnOk, length, map, slice_get};
-ghost use Rattle.std.specs.List.{AllZip};
+ghost use Rattle.std.specs.List.{AllZip, list_any};
 ghost use Rattle.std.specs.Option.{option_to_list};
 ghost use Rattle.vf_base.specs.Base.{fault_number};
 ghost use Rattle.copy_laws.specs.Windows.{good_slots};
@@ -9,12 +9,14 @@ ghost use Rattle.fault_shards.specs.Found.{IsFinding, found_faults};
 ghost use Rattle.copy_laws.specs.Windows.{RiseAtMostOwn};
 ghost use Rattle.own_gradings.specs.Numbers.{OwnStepsOf, RisesOwn};
 ghost use Rattle.copy_shard.specs.Kept.{IsShard, fault_kept};
-ghost use Rattle.copy_shard.specs.Shards.{FaultKept, StandsBeside, StaysEnded, finding_of, fault_steps_at, findings_of, fresh_shard, open_in, places_of, shard_steps};
+ghost use Rattle.copy_shard.specs.Copied.{IsSameShard, differences_of_each};
+ghost use Rattle.copy_shard.specs.Shards.{FaultKept, StandsBeside, StaysEnded, finding_of, fault_steps_at, findings_of, fresh_shard, goes_on, open_in, places_of, shard_steps};
 
+use crate::copied::copied_faults;
 use copy_state::FaultCopy;
 use good_trace::Setup;
 use run_trace::RunWindow;
-use shard_windows::{Reached, ShardFault, ShardRoom, advance_all, fresh_faults};
+use shard_windows::{Reached, ShardFault, ShardRoom, advance_all, fresh_faults, some_open};
 use std::alloc::Global;
 use std::marker::{Model, PhantomData};
 use std::mem;
@@ -247,6 +249,38 @@ impl<N: World> Shard<N> {
             None => None,
             Some(place) => Some(&self.faults[place].copy),
         }
+    }
+
+    /// Whether the grading of one of its faults goes on.
+    pub fn goes_on(&self) -> bool
+        ensures { result ≡ list_any goes_on self.now.faults }
+    {
+        some_open(&self.faults)
+    }
+
+    /// The same shard once more: it has the same faults, of each of which the same is kept, behind as many slots. So it was found as much of them, its copies stand for
+    /// the same differences, and they stand beside the good first run as those of this shard do.
+    ///
+    /// # Errors
+    ///
+    /// Want of memory.
+    pub fn copy(&self, alloc: Global) -> Result<Shard<N>, NoMemory>
+        ensures same { IfOk result (IsSameShard self.now) }
+        ensures places { IfOk result (λ copy. places_of copy.faults ≡ places_of self.now.faults) }
+        ensures found { IfOk result (λ copy. findings_of copy.faults ≡ findings_of self.now.faults) }
+        ensures differences { IfOk result (λ copy. differences_of_each N.design copy.faults ≡ differences_of_each N.design self.now.faults) }
+        ensures stands { IfOk result (StandsBeside N.design N.plan) }
+        ensures steps { IfOk result (λ copy. (tally : OwnStepsOf N.design N.plan) → shard_steps tally copy ≡ shard_steps tally self.now) }
+    {
+        let numbers = Vec::from_slice(alloc, &self.numbers)?;
+        let faults = copied_faults(alloc, &self.faults)?;
+        Ok(Shard {
+            gone: self.gone,
+            reached: self.reached,
+            numbers,
+            faults,
+            world: PhantomData,
+        })
     }
 
     /// Each fault of a shard stands as a fault does behind so many slots of the good first run, so what was found is its grade; once that run is through, something was

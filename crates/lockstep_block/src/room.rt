@@ -22,7 +22,6 @@ use vf_base::NoMemory;
 
 /// Room for the faults of a shard in lockstep: one runner, the good machine's state before a block and behind it, what a block tells, the runs of a block beside the good machine's, and room for the
 /// filter of a phase.
-#[derive(Drop)]
 pub struct LockstepRoom<'d, N: World> {
     pub runner: Runner<'d>,
     pub before: GoodMoment<N>,
@@ -31,6 +30,21 @@ pub struct LockstepRoom<'d, N: World> {
     pub beside: Beside,
     pub filter: FilterRoom<'d, N>,
     pub counts: Counts,
+}
+
+// Written out, so that its parts are let go of here alone.
+impl<'d, N: World> Drop for LockstepRoom<'d, N> {
+    fn drop(self) {
+        let LockstepRoom {
+            runner: _,
+            before: _,
+            behind: _,
+            told: _,
+            beside: _,
+            filter: _,
+            counts: _,
+        } = self;
+    }
 }
 
 /// What goes on of one fault within a slot: what is kept of it, the notes of the phase's own blocks, how many process and lane steps own blocks may yet take, the steps that the fault took

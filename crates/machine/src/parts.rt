@@ -24,7 +24,6 @@ pub enum Stage {
 /// tells.
 ///
 /// Contracts see a machine as a design with a fault, and a state of it. After a call that ran out of memory a machine isn't to be used again.
-#[derive(Drop)]
 pub struct Machine<'d> {
     pub(crate) graph: &'d Graph<'d>,
     pub(crate) nets: NetState<'d>,
@@ -34,6 +33,22 @@ pub struct Machine<'d> {
     pub(crate) noting: bool,
     pub(crate) stage: Stage,
     pub(crate) told: Told,
+}
+
+// Written out, so that its parts are let go of here alone.
+impl<'d> Drop for Machine<'d> {
+    fn drop(self) {
+        let Machine {
+            graph: _,
+            nets: _,
+            table: _,
+            record: _,
+            runs: _,
+            noting: _,
+            stage: _,
+            told: _,
+        } = self;
+    }
 }
 
 impl<'d> Values for Machine<'d> {

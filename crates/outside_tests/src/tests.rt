@@ -11,6 +11,7 @@ use std::thread::Threads;
 use top_call::{COUNTERS, Status, code, counters, line, vfault};
 use vf_base::{Gate, MemShelf, MemSink};
 
+mod backups;
 mod boards;
 mod limits;
 mod outside;

@@ -2,17 +2,21 @@
 use Rattle.std.proofs.Common.{◌≡◌, ℕ, ◌<◌, Bool, true, List, [], ◌∷◌, ◌++◌, map, length, refl, sym, ap, subst, ◌∙◌}
 use Rattle.std.specs.List.{All, Contains}
 use Rattle.std.proofs.lemmas.List.{map-append}
-use Rattle.std.proofs.lemmas.List.Elements.{All-same, All-weaker, All-push, All-contains_itself}
+use Rattle.std.proofs.lemmas.List.Elements.{All-nil, All-same, All-weaker, All-push, All-contains_itself}
 use Rattle.std.proofs.lemmas.Option.{slice_get_within}
 use Rattle.v_design.specs.Designs.{FlatDesign, StuckAt}
-use Rattle.copy_shard.specs.Shards.{places_of, fresh_fault}
+use Rattle.shard_turns.specs.copy_shard.Shards.{places_of, fresh_fault}
 use Rattle.fault_shards.specs.Cuts.{shard, ShardsCover}
 use Rattle.fault_shards.specs.Representatives.{AreRepresentatives}
 use Rattle.verdict_words.specs.Seats.{view}
 use Rattle.verdict_words.specs.declared.board.Board.{Board}
 use Rattle.verdict_words.specs.declared.view.View.{View}
-use Rattle.copy_shard.specs.declared.together.ClaimedShard.{ClaimedShard}
+use Rattle.shard_turns.specs.copy_shard.declared.together.ClaimedShard.{ClaimedShard}
 use Rattle.shard_claims.specs.declared.worker.Worker.{Worker}
+use Rattle.shard_turns.specs.Visits.{MovesListed, SettlesMore}
+use Rattle.vf_base.specs.Base.{fault_number}
+use Rattle.verdict_words.specs.declared.view.Mark.{Mark}
+use Rattle.verdict_words.specs.declared.board.Seat.{Seat}
 use Rattle.shard_claims.specs.Workers.{numbers_of, IsClaimed, KeepsShards, HasClaimed, StandsBy, IsWorkerAt}
 use Rattle.shard_claims.specs.WorkerLaws.{has-claimed}
 
@@ -28,6 +32,11 @@ shard-listed design faults representatives number numbers cover are same =
     All-same (λ n. n < length faults) numbers (shard number representatives) same
     (All-weaker (Contains (shard number representatives)) (λ n. n < length faults)
     (λ n c. representative-below design faults representatives n are (cover.within representatives number n c)) (shard number representatives) (All-contains_itself (shard number representatives)))
+
+-- no word was moved
+pub moved-none : (representatives : List ℕ) (moved : List Mark) → moved ≡ [] → MovesListed representatives moved
+moved-none representatives moved none =
+    All-same (λ (m : Mark). Contains representatives (fault_number m.fault)) moved [] none (All-nil (λ (m : Mark). Contains representatives (fault_number m.fault)))
 
 -- the faults of a shard that is new
 pub places-fresh : (numbers : List ℕ) → places_of (map fresh_fault numbers) ≡ numbers
@@ -65,3 +74,14 @@ module _ {N : Type 0} where
   pub stands-claimed : (representatives : List ℕ) (board : Board N) (gone : ℕ) (worker : Worker N) → worker.dry ≡ true → HasClaimed representatives board gone worker.seat worker.shards.items →
       IsWorkerAt representatives board gone worker
   stands-claimed representatives board gone worker dry h = subst (λ (b : Bool). StandsBy b representatives board gone worker) (sym dry) h
+
+  -- the claims of a worker stay where its seat settles more words
+  pub settles-on : (representatives : List ℕ) (board : Board N) (gone : ℕ) (old new : Seat N) (shards : List (ClaimedShard N)) → HasClaimed representatives board gone old shards →
+      SettlesMore representatives board old new → HasClaimed representatives board gone new shards
+  settles-on representatives board gone old new shards h more = record {
+    own = more.own;
+    share = more.claims.share ∙ h.share;
+    moved = more.moved h.moved;
+    dry = more.claims.dry ∙ h.dry;
+    keeps = record { claimed = more.claims.claimed ∙ h.keeps.claimed; each = h.keeps.each };
+  }

@@ -1,5 +1,5 @@
 pub mod Claiming
-pub mod Passing
 pub mod Ticks
-pub use Rattle.copy_shard.proofs as copy_shard
-pub use Rattle.copy_shard.proofs.fault_grade as fault_grade
+pub use Rattle.shard_turns.proofs as shard_turns
+pub use Rattle.shard_turns.proofs.copy_shard as copy_shard
+pub use Rattle.shard_turns.proofs.fault_grade as fault_grade

@@ -3,9 +3,9 @@ use Rattle.std.proofs.Common.{◌≡◌, ℕ, ◌+◌, ◌≤◌, Bool, true, fa
 use Rattle.std.proofs.lemmas.List.Sums.{sum_by_push}
 use Rattle.v_design.specs.Designs.{FlatDesign, TestPlan}
 use Rattle.own_gradings.specs.Numbers.{OwnStepsOf}
-use Rattle.copy_shard.specs.Shards.{shard_steps}
-use Rattle.copy_shard.specs.graded_steps.Behind.{RisesWithin}
-use Rattle.copy_shard.specs.declared.together.ClaimedShard.{ClaimedShard}
+use Rattle.shard_turns.specs.copy_shard.Shards.{shard_steps}
+use Rattle.shard_turns.specs.graded_steps.Behind.{RisesWithin}
+use Rattle.shard_turns.specs.copy_shard.declared.together.ClaimedShard.{ClaimedShard}
 use Rattle.shard_claims.specs.declared.worker.Worker.{Worker}
 use Rattle.shard_claims.specs.Workers.{claimed_steps, worker_steps}
 

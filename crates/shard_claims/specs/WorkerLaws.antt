@@ -4,7 +4,7 @@ use Rattle.std.proofs.lemmas.List.{map-append}
 use Rattle.std.proofs.lemmas.List.Elements.{All-append}
 use Rattle.verdict_words.specs.declared.board.Board.{Board}
 use Rattle.verdict_words.specs.declared.view.View.{View}
-use Rattle.copy_shard.specs.declared.together.ClaimedShard.{ClaimedShard}
+use Rattle.shard_turns.specs.copy_shard.declared.together.ClaimedShard.{ClaimedShard}
 use Rattle.shard_claims.specs.declared.worker.Worker.{Worker}
 use Rattle.shard_claims.specs.Workers.{numbers_of, IsClaimed, KeepsShards, IsNewSeat, HasClaimed, StandsBy, IsWorkerAt}
 
@@ -34,10 +34,13 @@ module _ {N : Type 0} where
   is-new representatives board gone worker not at = subst (λ (b : Bool). StandsBy b representatives board gone worker) not at
 
   -- behind some slots each worker has claimed
+  pub dry-behind : (representatives : List ℕ) (board : Board N) (gone : ℕ) (worker : Worker N) → 0 < gone → IsWorkerAt representatives board gone worker → worker.dry ≡ true
+  dry-behind representatives board gone worker some at = go worker.dry refl
+    where
+      go : (b : Bool) → worker.dry ≡ b → worker.dry ≡ true
+      go true e = e
+      go false e = (let none : gone ≡ 0 = (is-new representatives board gone worker e at).1 in absurd (omega (arith, none, some)))
+
   pub claimed-behind : (representatives : List ℕ) (board : Board N) (gone : ℕ) (worker : Worker N) → 0 < gone → IsWorkerAt representatives board gone worker →
       HasClaimed representatives board gone worker.seat worker.shards.items
-  claimed-behind representatives board gone worker some at = go worker.dry refl
-    where
-      go : (b : Bool) → worker.dry ≡ b → HasClaimed representatives board gone worker.seat worker.shards.items
-      go true e = has-claimed representatives board gone worker e at
-      go false e = (let none : gone ≡ 0 = (is-new representatives board gone worker e at).1 in absurd (omega (arith, none, some)))
+  claimed-behind representatives board gone worker some at = has-claimed representatives board gone worker (dry-behind representatives board gone worker some at) at

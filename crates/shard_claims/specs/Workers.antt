@@ -1,38 +1,23 @@
 -- What workers have between rounds (slots by IEEE 1364-2001, clause 5).
-use Rattle.std.specs.Prelude.{◌≡◌, ℕ, Bool, true, false, IsTrue, List, [], map, length, if◌then◌else◌}
+use Rattle.std.specs.Prelude.{◌≡◌, ℕ, ◌+◌, Bool, true, false, IsTrue, List, [], if◌then◌else◌}
 use Rattle.std.specs.List.{All}
 use Rattle.v_design.specs.Designs.{FlatDesign, TestPlan}
-use Rattle.own_gradings.specs.Numbers.{OwnStepsOf}
-use Rattle.copy_shard.specs.Shards.{places_of}
-pub use Rattle.copy_shard.specs.Together.{claimed_steps}
-use Rattle.fault_shards.specs.Cuts.{shard, shard_count}
-use Rattle.fault_shards.specs.Shards.{AreShardsOf, representatives_of}
-use Rattle.fault_shards.specs.declared.shards.Shards.{Shards}
-use Rattle.verdict_words.specs.Seats.{view, IsSeatOf, faults_of, claims_of}
+use Rattle.own_gradings.specs.Numbers.{OwnStepsOf, RisesOwn}
+pub use Rattle.shard_turns.specs.copy_shard.Together.{claimed_steps}
+pub use Rattle.shard_turns.specs.Backups.{AddUp, HasVisited, IsBackupSeat, IsFreshBackup, StaysSeat, visited_by, visits_in}
+pub use Rattle.shard_turns.specs.Claims.{AreBackupsOf, IsClaimed, IsPlaceOf, numbers_of}
+pub use Rattle.shard_turns.specs.Visits.{MovesListed, faults_steps, visit_steps}
+use Rattle.verdict_words.specs.Seats.{view, IsSeatOf}
 use Rattle.verdict_words.specs.Views.{lent_share}
 use Rattle.verdict_words.specs.declared.board.Board.{Board}
 use Rattle.verdict_words.specs.declared.board.Seat.{Seat}
 use Rattle.verdict_words.specs.declared.view.View.{View}
-use Rattle.copy_shard.specs.declared.together.ClaimedShard.{ClaimedShard}
+use Rattle.shard_turns.specs.copy_shard.declared.together.ClaimedShard.{ClaimedShard}
+use Rattle.shard_claims.specs.declared.worker.Seated.{Seated}
 use Rattle.shard_claims.specs.declared.worker.Worker.{Worker}
 
 module _ {N : Type 0} where
-  -- the shards are those of the plan's faults, and the board has a word for each listed fault and a claim for each shard
-  pub record IsPlaceOf (design : FlatDesign) (plan : TestPlan) (shards : Shards) (board : Board N) : Type 0 where
-    pub shards_are : AreShardsOf design plan.faults shards
-    pub faults : faults_of board ≡ length plan.faults
-    pub claims : claims_of board ≡ shard_count (length (representatives_of shards))
-
   -- Shards
-
-  -- the numbers by which shards were claimed
-  abbrev pub numbers_of : List (ClaimedShard N) → List ℕ
-  numbers_of shards = map (λ (claimed : ClaimedShard N). claimed.number) shards
-
-  -- a shard has the faults of its claim, and has gone through so many slots of the good first run
-  pub record IsClaimed (representatives : List ℕ) (gone : ℕ) (claimed : ClaimedShard N) : Type 0 where
-    pub faults : places_of claimed.shard.faults ≡ shard claimed.number representatives
-    pub gone_is : claimed.shard.gone ≡ gone
 
   -- a seat drew the claims of these shards and no others
   pub record KeepsShards (representatives : List ℕ) (gone : ℕ) (v : View) (shards : List (ClaimedShard N)) : Type 0 where
@@ -53,11 +38,11 @@ module _ {N : Type 0} where
     pub claimed : (view seat).claimed ≡ []
     pub moved : (view seat).moved ≡ []
 
-  -- a seat that was told that no claim is left, beside the shards that it claimed; it moved no word
+  -- a seat that was told that no claim is left, beside the shards that it claimed; it moved words of representatives alone
   pub record HasClaimed (representatives : List ℕ) (board : Board N) (gone : ℕ) (seat : Seat N) (shards : List (ClaimedShard N)) : Type 0 where
     pub own : IsSeatOf board seat
     pub share : (view seat).share ≡ lent_share
-    pub moved : (view seat).moved ≡ []
+    pub moved : MovesListed representatives (view seat).moved
     pub dry : IsTrue (view seat).dry
     pub keeps : KeepsShards representatives gone (view seat) shards
 
@@ -68,3 +53,11 @@ module _ {N : Type 0} where
 
   abbrev pub IsWorkerAt : List ℕ → Board N → ℕ → Worker N → Type 0
   IsWorkerAt representatives board gone worker = StandsBy worker.dry representatives board gone worker
+
+  -- A worker in a round
+
+  -- a counter rose by no more than the own steps of the faults of a worker's shards, and of those of the slots that it visited, up to behind so many slots of the good first run and not more
+  abbrev pub RoseInRound : FlatDesign → TestPlan → List ℕ → ℕ → ℕ → Worker N → Seated N → ℕ → ℕ → Type 0
+  RoseInRound design plan representatives from to worker after_it before after =
+      RisesOwn design plan (λ tally. worker_steps tally worker + visit_steps tally representatives from (visited_by after_it.backup))
+      (λ tally. worker_steps tally after_it.worker + visit_steps tally representatives to (visited_by after_it.backup)) before after

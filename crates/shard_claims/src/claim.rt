@@ -1,14 +1,13 @@
 // The first round of a worker, which claims shards until none is left.
 
 ghost use Rattle.std.specs.Prelude.{◌≡◌, ◌+◌, ◌<◌, ◌≤◌, length, IfOk};
-ghost use Rattle.copy_shard.specs.Shards.{places_of, shard_steps};
+ghost use Rattle.shard_turns.specs.copy_shard.Shards.{places_of, shard_steps};
 ghost use Rattle.own_gradings.specs.Numbers.{OwnStepsOf};
 ghost use Rattle.fault_shards.specs.Cuts.{shard, shard_count};
 ghost use Rattle.fault_shards.specs.Shards.{representatives_of};
 ghost use Rattle.shard_claims.specs.Workers.{IsPlaceOf, IsNewSeat, HasClaimed, claimed_steps};
 
-use crate::round::Round;
-use copy_shard::{ClaimedShard, Shard, ShardRoom};
+use shard_turns::{ClaimedShard, Round, Shard, ShardRoom};
 use std::alloc::Global;
 use std::sync::ledger::Ledger;
 use v_design::World;

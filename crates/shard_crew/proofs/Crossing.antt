@@ -18,6 +18,7 @@ use Rattle.process_code.proofs.code.Ways.TheSendSync as ways_crosses
 use Rattle.fault_shards.proofs.shards.Shards.TheSendSync as shards_crosses
 use Rattle.verdict_words.proofs.board.Board.TheSendSync as board_crosses
 use Rattle.run_trace.proofs.window.RunWindow.TheSendSync as window_crosses
+use Rattle.shard_findings.proofs.shard_turns.backups.Backups.TheSendSync as backups_crosses
 use Rattle.v_design.specs.declared.world.World.{Ghosts}
 use Rattle.v_design.specs.contracts.tree.FlatStmt as statement
 use Rattle.v_design.specs.contracts.plan.Design as design
@@ -29,7 +30,7 @@ use Rattle.process_code.specs.contracts.code.Spot as spot
 use Rattle.process_code.specs.contracts.code.Code as code
 use Rattle.good_trace.specs.contracts.setup.Setup as setup
 use Rattle.good_trace.specs.contracts.setup.Setup.TheInside as inside
-use Rattle.shard_claims.specs.contracts.round.Round as round
+use Rattle.shard_findings.specs.shard_turns.contracts.round.Round as round
 
 nodes : IsSync node.the_row
 nodes = search (
@@ -105,6 +106,6 @@ round_sync r d N G world n gate = declared_sync (round.the_type r d N G world) (
   search (setup_sync d N world n, sendable),
   (
     search (shards_crosses.the_sync, sendable),
-    (search (board_crosses.the_sync N world, sendable), (search (gate, sendable), (search (window_crosses.the_sync N world, sendable), tt))),
+    (search (board_crosses.the_sync N world, sendable), (search (gate, sendable), (search (window_crosses.the_sync N world, sendable), (search (backups_crosses.the_sync N world, n, sendable), tt)))),
   ),
 )

@@ -1,22 +1,15 @@
-//! Workers side by side: they are hired, taken through a round of the good first run's windows in threads of their own, and what they found is gathered behind the last
-//! one (slots by IEEE 1364-2001, clause 5).
+//! Workers side by side: they are taken through a round of the good first run's windows, each in a thread of its own (slots by IEEE 1364-2001, clause 5).
 //!
-//! `hire` splits a seat off a board's first seat for each worker. `crew` takes all workers through a round, each in a thread of its own: its main contract is that all
-//! of them come back behind the round's window. Behind the last round `finish` has the words of each worker's findings settled by its own seat, and joins the seats: the
-//! seat that is left has the whole share, each fault of each shard that it claimed was found, with its grade, and had its word seen.
+//! `leave_copies` leaves a copy of each worker's shards that go on in the slots of a round. `crew` takes all workers through the round, each in a thread of its own: its main
+//! contract is that all of them come back behind the round's window, and that together they have visited all slots.
 #![tactic(auto)]
 
-mod findings;
-mod gathered;
-mod hiring;
-mod place;
-mod rules;
+mod leaving;
 mod threads;
 
-pub use findings::finish;
-pub use gathered::Gathered;
-pub use hiring::hire;
-pub use place::Place;
-pub use rules::rules_hold;
-pub use shard_claims::{ClaimedShard, Round, Shard, Worker};
+pub use leaving::leave_copies;
+pub use shard_findings::{
+    BackupSeat, Backups, ClaimedShard, Gathered, Place, Round, Shard, Worker, finish, hire,
+    rules_hold,
+};
 pub use threads::crew;

@@ -1,12 +1,15 @@
 // Workers side by side, each in a thread of its own.
 
-ghost use Rattle.std.specs.Prelude.{◌≡◌, length, IfOk, OnOk, IsSomeAnd};
+ghost use Rattle.std.specs.Prelude.{◌≡◌, length, IfOk, IsSomeAnd, Some};
 ghost use Rattle.fault_shards.specs.Shards.{representatives_of};
-ghost use Rattle.shard_claims.specs.Workers.{IsPlaceOf, IsWorkerAt};
-ghost use Rattle.shard_crew.specs.Crews.{AreWorkersAt, CrewRose, WorkerRose};
+ghost use Rattle.shard_findings.specs.shard_claims.Workers.{AreBackupsOf, HasVisited, IsPlaceOf, IsWorkerAt};
+ghost use Rattle.shard_findings.specs.shard_claims.declared.worker.Seated.{Seated};
+ghost use Rattle.shard_findings.specs.shard_turns.declared.backups.BackupSeat.{BackupSeat};
+ghost use Rattle.shard_findings.specs.AllWorkers.{AreWorkersAt};
+ghost use Rattle.shard_crew.specs.Crews.{CrewRose, HasCrewVisited, IsCrewSeat, IsSeatedAt, WorkerRose};
 ghost use Rattle.shard_crew.specs.Crossings.{MayCross};
 
-use shard_claims::{Round, Worker, work};
+use shard_findings::{BackupSeat, Round, Seated, Worker, work};
 use std::alloc::Global;
 use std::sync::ledger::Ledger;
 use std::thread::{Threads, join_mut};
@@ -17,23 +20,27 @@ use vf_base::{Gate, NoMemory, Steps};
 fn work_alone<N: World, G: Gate, L: Ledger>(
     alloc: Global,
     round: &Round<'_, '_, N, G>,
-    worker: &mut Option<Worker<N>>,
+    seated: &mut Option<Seated<N>>,
     mine: &mut [Steps<L>],
-) -> Result<Worker<N>, NoMemory>
+) -> Result<Seated<N>, NoMemory>
     requires place { IsPlaceOf N.design N.plan round.now.shards.now round.now.board.now }
-    requires at { IsSomeAnd worker.old (IsWorkerAt (representatives_of round.now.shards.now) round.now.board.now round.now.window.now.before) }
+    requires backups { AreBackupsOf round.now.shards.now round.now.backups.now }
+    requires at { IsSomeAnd seated.old (IsSeatedAt (representatives_of round.now.shards.now) round.now.board.now round.now.backups.now round.now.window.now.before) }
     requires one { length mine.old ≡ 1 }
-    ensures through { IfOk result (IsWorkerAt (representatives_of round.now.shards.now) round.now.board.now round.now.window.now.through) }
-    ensures ticks { IfOk result (λ after. WorkerRose N.design N.plan worker.old after mine.old mine.new) }
+    ensures through { IfOk result (λ after. IsWorkerAt (representatives_of round.now.shards.now) round.now.board.now round.now.window.now.through after.worker) }
+    ensures visited { IfOk result (λ after. (one : Seated N) → seated.old ≡ Some one → HasVisited round.now.backups.now one.backup after.backup) }
+    ensures ticks { IfOk result (λ after. WorkerRose N.design N.plan (representatives_of round.now.shards.now) round.now.window.now.before round.now.window.now.through
+        seated.old after mine.old mine.new) }
 {
-    let Some(worker) = worker.take() else {
+    let Some(one) = seated.take() else {
         unreachable!();
     };
-    let worker = work(alloc, round, worker, &mut mine[0])?;
-    Ok(worker)
+    let after = work(alloc, round, one, &mut mine[0])?;
+    Ok(after)
 }
 
-/// Takes workers through a round, each in a thread of its own and with a counter of its own; the last one that is started runs in the calling thread.
+/// Takes workers through a round, each in a thread of its own and with a counter of its own; the last one that is started runs in the calling thread. The seat of the round's
+/// backups, off which theirs are split, comes back with the visits of all.
 ///
 /// # Errors
 ///
@@ -43,49 +50,71 @@ pub fn crew<N: World, R: Threads + Sync, G: Gate + Sync, L: Ledger + Send + Sync
     alloc: Global,
     round: &Round<'_, '_, N, G>,
     workers: &mut Vec<Worker<N>>,
+    seat: &mut Option<BackupSeat<N>>,
     steps: &mut [Steps<L>],
-) -> Result<(), NoMemory>
+) -> Result<BackupSeat<N>, NoMemory>
     requires place { IsPlaceOf N.design N.plan round.now.shards.now round.now.board.now }
+    requires backups { AreBackupsOf round.now.shards.now round.now.backups.now }
     requires at { AreWorkersAt (representatives_of round.now.shards.now) round.now.board.now round.now.window.now.before (length steps.old) workers.old.items }
+    requires seat { IsSomeAnd seat.old (IsCrewSeat round.now.backups.now (length steps.old)) }
     // What the bounds of the type parameters say.
     requires bounds { MayCross N.row R.row G.row L.row }
-    ensures through { OnOk result (AreWorkersAt (representatives_of round.now.shards.now) round.now.board.now round.now.window.now.through (length steps.old) workers.new.items) }
-    ensures ticks { OnOk result (CrewRose N.design N.plan workers.old.items workers.new.items steps.old steps.new) }
+    ensures through { IfOk result (λ _. AreWorkersAt (representatives_of round.now.shards.now) round.now.board.now round.now.window.now.through (length steps.old) workers.new.items) }
+    ensures visited { IfOk result (λ after. (one : BackupSeat N) → seat.old ≡ Some one → HasCrewVisited round.now.backups.now (length steps.old) one after) }
+    ensures ticks { IfOk result (λ after. CrewRose N.design N.plan (representatives_of round.now.shards.now) round.now.window.now.before round.now.window.now.through workers.old.items
+        workers.new.items after steps.old steps.new) }
 {
+    let Some(all) = seat.take() else {
+        unreachable!();
+    };
     let Some(worker) = workers.pop() else {
-        return Ok(());
+        return Ok(all);
     };
     let count = workers.len();
     let (others, mine) = steps.split_at_mut(count);
-    let mut first = Some(worker);
     if count == 0 {
-        let worker = work_alone(alloc, round, &mut first, mine)?;
+        let mut first = Some(Seated {
+            worker,
+            backup: all,
+        });
+        let alone = work_alone(alloc, round, &mut first, mine)?;
+        let Seated { worker, backup } = alone;
         workers.push(worker)?;
-        return Ok(());
+        return Ok(backup);
     }
+    let (rest, backup) = round.backups.split(all);
+    let mut first = Some(Seated { worker, backup });
+    let mut left = Some(rest);
     // Each thread has an allocator of its own.
     let theirs = alloc;
     let (a, b) = join_mut(
         rt,
-        &mut || -> Result<Worker<N>, NoMemory>
+        &mut || -> Result<Seated<N>, NoMemory>
             requires place { IsPlaceOf N.design N.plan round.now.shards.now round.now.board.now }
-            requires at { IsSomeAnd first (IsWorkerAt (representatives_of round.now.shards.now) round.now.board.now round.now.window.now.before) }
+            requires backups { AreBackupsOf round.now.shards.now round.now.backups.now }
+            requires at { IsSomeAnd first (IsSeatedAt (representatives_of round.now.shards.now) round.now.board.now round.now.backups.now round.now.window.now.before) }
             requires one { length mine.now ≡ 1 }
-            ensures through { IfOk result (IsWorkerAt (representatives_of round.entry.now.shards.now) round.entry.now.board.now round.entry.now.window.now.through) }
-            ensures ticks { IfOk result (λ after. WorkerRose N.design N.plan first.entry after mine.entry.now mine.exit.now) }
+            ensures through { IfOk result (λ after. IsWorkerAt (representatives_of round.entry.now.shards.now) round.entry.now.board.now round.entry.now.window.now.through after.worker) }
+            ensures visited { IfOk result (λ after. (one : Seated N) → first.entry ≡ Some one → HasVisited round.entry.now.backups.now one.backup after.backup) }
+            ensures ticks { IfOk result (λ after. WorkerRose N.design N.plan (representatives_of round.entry.now.shards.now) round.entry.now.window.now.before round.entry.now.window.now.through
+                first.entry after mine.entry.now mine.exit.now) }
         { work_alone(alloc, round, &mut first, mine) },
-        &mut || -> Result<(), NoMemory>
+        &mut || -> Result<BackupSeat<N>, NoMemory>
             requires place { IsPlaceOf N.design N.plan round.now.shards.now round.now.board.now }
+            requires backups { AreBackupsOf round.now.shards.now round.now.backups.now }
             requires at { AreWorkersAt (representatives_of round.now.shards.now) round.now.board.now round.now.window.now.before (length others.now) workers.now.items }
+            requires seat { IsSomeAnd left (IsCrewSeat round.now.backups.now (length others.now)) }
             requires bounds { MayCross N.row R.row G.row L.row }
-            ensures through { OnOk result (AreWorkersAt (representatives_of round.entry.now.shards.now) round.entry.now.board.now round.entry.now.window.now.through
+            ensures through { IfOk result (λ _. AreWorkersAt (representatives_of round.entry.now.shards.now) round.entry.now.board.now round.entry.now.window.now.through
                 (length others.entry.now) workers.exit.now.items) }
-            ensures ticks { OnOk result (CrewRose N.design N.plan workers.entry.now.items workers.exit.now.items
-                others.entry.now others.exit.now) }
-        { crew(rt, theirs, round, workers, others) },
+            ensures visited { IfOk result (λ after. (one : BackupSeat N) → left.entry ≡ Some one → HasCrewVisited round.entry.now.backups.now (length others.entry.now) one after) }
+            ensures ticks { IfOk result (λ after. CrewRose N.design N.plan (representatives_of round.entry.now.shards.now) round.entry.now.window.now.before round.entry.now.window.now.through
+                workers.entry.now.items workers.exit.now.items after others.entry.now others.exit.now) }
+        { crew(rt, theirs, round, workers, &mut left, others) },
     );
-    let worker = a?;
-    b?;
+    let came = a?;
+    let rest = b?;
+    let Seated { worker, backup } = came;
     workers.push(worker)?;
-    Ok(())
+    Ok(round.backups.join(rest, backup))
 }

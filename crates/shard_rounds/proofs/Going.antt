@@ -1,5 +1,5 @@
 -- Round after round (slots by IEEE 1364-2001, clause 5).
-use Rattle.std.proofs.Common.{◌≡◌, ℕ, suc, ◌-◌, ◌<◌, ◌≤◌, true, List, length, sym, subst, ◌∙◌, arith, Result, Ok, IfOk}
+use Rattle.std.proofs.Common.{◌≡◌, ℕ, suc, ◌-◌, ◌<◌, ◌≤◌, true, List, length, sym, subst, ◌∙◌, arith}
 use Rattle.std.proofs.lemmas.Option.{slice_get_within}
 use Rattle.v_design.specs.Designs.{FlatDesign, TestPlan}
 use Rattle.v_design.specs.WellFormed.{KeepsRules}
@@ -10,7 +10,7 @@ use Rattle.good_windows.specs.Next.{RunKept, IsNextWindow, AllStand, LoopsBehind
 use Rattle.shard_crew.specs.fault_grade.Results.{LoopsAt}
 use Rattle.verdict_words.specs.declared.board.Board.{Board}
 use Rattle.shard_crew.specs.shard_claims.declared.worker.Worker.{Worker}
-use Rattle.shard_crew.specs.Crews.{AreWorkersAt}
+use Rattle.shard_crew.specs.shard_findings.AllWorkers.{AreWorkersAt}
 use Rattle.shard_rounds.specs.Rounds.{IsWindowAhead, AreThrough}
 
 -- a window ends where the good first run does, or before

@@ -1,5 +1,5 @@
 -- How rounds follow each other (slots by IEEE 1364-2001, clause 5).
-use Rattle.std.specs.Prelude.{◌≡◌, ℕ, ◌+◌, ◌≤◌, true, List, length, sum}
+use Rattle.std.specs.Prelude.{◌≡◌, ℕ, ◌+◌, ◌^◌, true, List, length, sum}
 use Rattle.v_design.specs.Designs.{FlatDesign, TestPlan}
 use Rattle.copy_laws.specs.Windows.{IsWindow, good_slots}
 use Rattle.shard_crew.specs.fault_grade.Results.{LoopsAt}
@@ -10,7 +10,13 @@ use Rattle.shard_crew.specs.graded_steps.Behind.{RisesWithin}
 use Rattle.good_windows.specs.Next.{RunKept, GivesNext, steps_of_slots}
 use Rattle.good_windows.specs.declared.next.NextWindow.{NextWindow}
 use Rattle.verdict_words.specs.declared.board.Board.{Board}
-use Rattle.shard_crew.specs.Crews.{AreWorkersAt, crew_steps}
+use Rattle.fault_shards.specs.declared.shards.Shards.{Shards}
+use Rattle.shard_crew.specs.shard_claims.Workers.{AreBackupsOf, faults_steps}
+use Rattle.shard_crew.specs.shard_turns.declared.backups.Backups.{Backups}
+use Rattle.shard_crew.specs.shard_turns.declared.backups.BackupSeat.{BackupSeat}
+use Rattle.verdict_words.specs.Seats.{view}
+use Rattle.shard_crew.specs.shard_findings.AllWorkers.{AreWorkersAt, crew_steps}
+use Rattle.shard_crew.specs.Crews.{IsCrewSeat}
 use Rattle.shard_crew.specs.shard_claims.declared.worker.Worker.{Worker}
 use Rattle.shard_rounds.specs.declared.step.Rounds.{Rounds}
 use Rattle.shard_rounds.specs.declared.step.Later.{Later}
@@ -58,11 +64,24 @@ module _ {N : Type 0} where
   GoesOn design plan representatives board count through run (Done workers) = AreThrough design plan representatives board count workers.items
   GoesOn design plan representatives board count through run (Loops time) = LoopsAt design plan time
 
-  -- the counters of its workers rose by no more than the own steps of their faults in the round; where the good machine loops the workers are gone
-  abbrev pub RoundTicks : FlatDesign → TestPlan → List (Worker N) → ℕ → ℕ → Later N → Type 0
-  RoundTicks design plan workers before after (Round rounds) = RisesOwn design plan (λ tally. crew_steps tally workers) (λ tally. crew_steps tally rounds.workers.items) before after
-  RoundTicks design plan workers before after (Done gone) = RisesOwn design plan (λ tally. crew_steps tally workers) (λ tally. crew_steps tally gone.items) before after
-  RoundTicks design plan workers before after (Loops time) = Unit {0}
+  -- a round has slots for all shards, and a seat with the whole share, off which those of so many workers are split
+  pub record BackedUp (shards : Shards) (count : ℕ) (made : Backups N × BackupSeat N) : Type 0 where
+    pub slots : AreBackupsOf shards made.0
+    pub seat : IsCrewSeat made.0 count made.1
+    pub whole : (view made.1.visits).share ≡ 2 ^ 62
+
+  -- Up to behind so many slots of the good first run and not more the counters of the workers rose by no more than the own steps of their shards' faults, and once more those of all faults that
+  -- stand for their classes, since copies of shards may be run beside them
+  abbrev pub CrewTicks : FlatDesign → TestPlan → List ℕ → ℕ → ℕ → List (Worker N) → List (Worker N) → ℕ → ℕ → Type 0
+  CrewTicks design plan representatives from to old new before after =
+      RisesOwn design plan (λ tally. crew_steps tally old + faults_steps tally from representatives) (λ tally. crew_steps tally new + faults_steps tally to representatives) before after
+
+  -- so they rose in a round; where the good machine loops the workers are gone
+  abbrev pub RoundTicks : FlatDesign → TestPlan → List ℕ → ℕ → ℕ → List (Worker N) → ℕ → ℕ → Later N → Type 0
+  RoundTicks design plan representatives from to workers before after (Round rounds) = CrewTicks design plan representatives from to workers rounds.workers.items before after
+  RoundTicks design plan representatives from to workers before after (Done gone) =
+      CrewTicks design plan representatives from (length (good_slots design plan)) workers gone.items before after
+  RoundTicks design plan representatives from to workers before after (Loops time) = Unit {0}
 
   -- the counter of the good machine rose by no more than its process steps in between
   abbrev pub GoodTicks : FlatDesign → TestPlan → ℕ → ℕ → ℕ → ℕ → Later N → Type 0
@@ -71,14 +90,10 @@ module _ {N : Type 0} where
   GoodTicks design plan ran now before after (Loops time) = RisesWithin (steps_of_slots design plan ran) (good_steps design plan) before after
 
   -- the same behind all rounds
-  abbrev pub AllTicks : FlatDesign → TestPlan → List (Worker N) → ℕ → ℕ → Through N → Type 0
-  AllTicks design plan workers before after (ends.All gone) = RisesOwn design plan (λ tally. crew_steps tally workers) (λ tally. crew_steps tally gone.items) before after
-  AllTicks design plan workers before after (ends.Loops time) = Unit {0}
-
-  -- the first window, behind which so many slots were run
-  abbrev pub FirstTicks : FlatDesign → TestPlan → ℕ → ℕ → ℕ → First N → Type 0
-  FirstTicks design plan ran before after (first.Window window) = after ≤ before + steps_of_slots design plan ran
-  FirstTicks design plan ran before after (first.Loops time) = Unit {0}
+  abbrev pub AllTicks : FlatDesign → TestPlan → List ℕ → ℕ → List (Worker N) → ℕ → ℕ → Through N → Type 0
+  AllTicks design plan representatives from workers before after (ends.All gone) =
+      CrewTicks design plan representatives from (length (good_slots design plan)) workers gone.items before after
+  AllTicks design plan representatives from workers before after (ends.Loops time) = Unit {0}
 
   -- behind all rounds
   abbrev pub AreDone : FlatDesign → TestPlan → List ℕ → Board N → ℕ → Through N → Type 0

@@ -8,7 +8,7 @@ ghost use Rattle.verdict_words.specs.Views.{first_view};
 ghost use Rattle.shard_crew.specs.shard_claims.Workers.{IsPlaceOf};
 ghost use Rattle.shard_crew.specs.graded_steps.Behind.{RisesWithin};
 ghost use Rattle.good_windows.specs.Next.{steps_of_slots};
-ghost use Rattle.shard_rounds.specs.Rounds.{AllTicks, FirstTicks, IsBeforeRound, AreDone, IsFirst};
+ghost use Rattle.shard_rounds.specs.Rounds.{AllTicks, IsBeforeRound, AreDone, IsFirst};
 ghost use Rattle.shard_rounds.specs.Outcomes.{IsOutcome, OutcomeTicks};
 
 use crate::outcome::Outcome;
@@ -48,7 +48,7 @@ fn first_window<N: World, L: Ledger>(
     requires none { (ahead.old.run.gone ≡ 0) × (ahead.old.run.ran ≡ 0) }
     requires usable { ahead.old.run.usable ≡ true }
     ensures first { IfOk result (IsFirst N.design N.plan ahead.new.run) }
-    ensures ticks { IfOk result (FirstTicks N.design N.plan ahead.new.run.ran (sum own.old) (sum own.new)) }
+    ensures ticks { IfOk result (λ _. sum own.new ≤ sum own.old + steps_of_slots N.design N.plan ahead.new.run.ran) }
 {
     beside_laws::good_run_goes_on();
     rules_hold(setup);
@@ -72,9 +72,10 @@ fn go_rounds<N: World, R: Threads + Sync, G: Gate + Sync, L: Ledger + Send + Syn
 ) -> Result<Through<N>, NoMemory>
     requires place { IsPlaceOf N.design N.plan place.now.shards.now place.now.board.now }
     requires before { IsBeforeRound N.design N.plan (representatives_of place.now.shards.now) place.now.board.now (length steps.old) ahead.old.run rounds }
+    requires counters { (1 ≤ length steps.old) × (length steps.old ≤ 64) }
     requires one { length own.old ≡ 1 }
     ensures done { IfOk result (AreDone N.design N.plan (representatives_of place.now.shards.now) place.now.board.now (length steps.old)) }
-    ensures ticks { IfOk result (AllTicks N.design N.plan rounds.workers.items (sum steps.old) (sum steps.new)) }
+    ensures ticks { IfOk result (AllTicks N.design N.plan (representatives_of place.now.shards.now) rounds.window.before rounds.workers.items (sum steps.old) (sum steps.new)) }
     ensures good { IfOk result (λ _. RisesWithin (steps_of_slots N.design N.plan ahead.old.run.ran) (good_steps N.design N.plan) (sum own.old) (sum own.new)) }
 {
     let mut rounds = rounds;
@@ -105,8 +106,10 @@ fn grade_run<N: World, R: Threads + Sync, G: Gate + Sync, L: Ledger + Send + Syn
     requires counters { (1 ≤ length steps.old) × (length steps.old ≤ 64) }
     requires one { length own.old ≡ 1 }
     ensures outcome { IfOk result (IsOutcome N.design N.plan (representatives_of place.now.shards.now) place.now.board.now) }
-    ensures ticks { IfOk result (OutcomeTicks N.design N.plan (sum own.old + sum steps.old) (sum own.new + sum steps.new)) }
+    ensures ticks { IfOk result (OutcomeTicks N.design N.plan (representatives_of place.now.shards.now) (sum own.old + sum steps.old) (sum own.new + sum steps.new)) }
+    ensures good { IfOk result (λ _. sum own.new ≤ sum own.old + good_steps N.design N.plan) }
 {
+    own_gradings::own_steps_rise();
     let count = steps.len() as u32;
     let window = match first_window(place.setup, ahead, own)? {
         First::Window(window) => window,
@@ -126,7 +129,8 @@ fn grade_run<N: World, R: Threads + Sync, G: Gate + Sync, L: Ledger + Send + Syn
 
 /// Grades the faults of all shards by as many workers as there are counters, in rounds; `own` has the calling thread's counter alone.
 ///
-/// Which worker grades which shard depends on the schedule; what is answered doesn't. Where no thread can be started the calling thread does the work.
+/// Which worker grades which shard depends on the schedule; what is answered doesn't. Where no thread can be started the calling thread does the work. Whatever comes out, the
+/// calling thread's counter rises by no more than the process steps of the good first run.
 ///
 /// # Errors
 ///
@@ -145,7 +149,8 @@ pub fn grade_rounds<N: World, R: Threads + Sync, G: Gate + Sync, L: Ledger + Sen
     requires counters { (1 ≤ length steps.old) × (length steps.old ≤ 64) }
     requires one { length own.old ≡ 1 }
     ensures outcome { IfOk result (IsOutcome N.design N.plan (representatives_of place.now.shards.now) place.now.board.now) }
-    ensures ticks { IfOk result (OutcomeTicks N.design N.plan (sum own.old + sum steps.old) (sum own.new + sum steps.new)) }
+    ensures ticks { IfOk result (OutcomeTicks N.design N.plan (representatives_of place.now.shards.now) (sum own.old + sum steps.old) (sum own.new + sum steps.new)) }
+    ensures good { IfOk result (λ _. sum own.new ≤ sum own.old + good_steps N.design N.plan) }
 {
     let run = GoodRun::new(alloc, place.setup)?;
     let mut ahead = Ahead { run, used: None };

@@ -1,3 +1,4 @@
+pub mod Ended
 pub mod Entering
 pub mod Numbers
 pub mod Leaving

@@ -1,4 +1,5 @@
 pub mod Slots
+pub mod Ended
 pub use Rattle.copy_lockstep.specs.window_faults as window_faults
 pub use Rattle.copy_lockstep.specs.copy_window as copy_window
 pub use Rattle.copy_lockstep.specs.window_strobes as window_strobes

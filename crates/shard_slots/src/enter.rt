@@ -9,6 +9,7 @@ ghost use Rattle.copy_lockstep.specs.window_faults.Steps.{StaysFault};
 ghost use Rattle.copy_lockstep.specs.window_faults.Within.{AreWithin, IsWithin};
 ghost use Rattle.shard_slots.specs.Slots.{Enters, HaveEntered};
 
+use crate::let_go::let_go_ended;
 use copy_lockstep::{
     Entered, Entering, FaultAt, FaultBeside, LockstepWindow, Reached, ShardFault, enter,
     listed_fault, rests,
@@ -56,6 +57,7 @@ fn enter_open<N: World>(
             Ok(rests(alloc, fault, number))
         }
         Entered::Ended => {
+            let_go_ended(alloc, own);
             at.slot += 1;
             Ok(rests(alloc, fault, number))
         }

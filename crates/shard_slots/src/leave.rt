@@ -19,15 +19,16 @@ ghost use Rattle.copy_lockstep.specs.window_faults.Steps.{StaysFault, steps_of_f
 ghost use Rattle.copy_lockstep.specs.window_faults.Within.{AreWithin, IsWithin};
 ghost use Rattle.shard_slots.specs.Slots.{EntersAt, HaveGone, WentThrough};
 
+use crate::let_go::let_go_ended;
 use causal_monitor::SlotLog;
 use copy_lockstep::{
-    FaultAt, FaultBeside, FaultInSlot, Machine, ShardFault, WindowStrobes, begin_fault, comes_to,
-    count_behind, leave_first, leave_slot, run_whole, slots_take_own,
+    FaultAt, FaultBeside, Machine, ShardFault, WindowStrobes, begin_fault, comes_to, count_behind,
+    leave_first, leave_slot, run_whole, slots_take_own,
 };
 use good_trace::{Setup, TraceWindow};
 use std::alloc::Global;
 use std::sync::ledger::Ledger;
-use v_design::{Fault, World};
+use v_design::World;
 use vf_base::{NoMemory, Steps};
 
 /// A fault that went through a slot in lockstep, behind it. The answer is how far it has come then.
@@ -35,8 +36,7 @@ fn leave_going<N: World>(
     alloc: Global,
     setup: &Setup<'_, N>,
     window: &TraceWindow<N>,
-    fault: Fault,
-    one: FaultInSlot,
+    beside: FaultBeside,
     own: &mut ShardFault,
     at: FaultAt,
     slot: u32,
@@ -46,26 +46,26 @@ fn leave_going<N: World>(
     requires one { window.now.before ≡ 0 → window.now.through ≡ 1 }
     requires more { window.now.before ≡ 0 → 1 < length (good_slots N.design N.plan) }
     requires none { own.old.end ≡ None }
-    requires listed { slice_get N.plan.faults own.old.copy.fault ≡ Some (fault_of fault) }
-    requires entered { EntersAt N.design N.plan (fault_of fault) (window.now.before + slot) own.old at }
+    requires listed { slice_get N.plan.faults own.old.copy.fault ≡ Some (fault_of beside.fault) }
+    requires entered { EntersAt N.design N.plan (fault_of beside.fault) (window.now.before + slot) own.old at }
     requires through { (first : FirstSlot) → slice_get (good_slots N.design N.plan) (window.now.before + slot) ≡ Some first →
-        IsCopyInLockstep N.design N.plan (fault_of fault) (window.now.before + slot) first.begins.time (lockstep_differences one.own.copy) }
-    requires states { one.own.copy.states ≡ [] }
-    requires place { one.own.copy.fault ≡ own.old.copy.fault }
+        IsCopyInLockstep N.design N.plan (fault_of beside.fault) (window.now.before + slot) first.begins.time (lockstep_differences beside.one.own.copy) }
+    requires states { beside.one.own.copy.states ≡ [] }
+    requires place { beside.one.own.copy.fault ≡ own.old.copy.fault }
     ensures slot { IfOk result (λ came. came.slot ≡ slot + 1) }
     ensures fault { IfOk result (λ came. StandsAtSlot N.design N.plan (window.now.before + (slot + 1)) came.passed own.new) }
     ensures place { OnOk result (SameFault own.old own.new) }
 {
     if window.begins() == 0 {
-        let passed = leave_first(alloc, setup, window, fault, one, own)?;
+        let passed = leave_first(alloc, setup, window, beside.fault, beside.one, own)?;
         return Ok(comes_to(1, passed));
     }
     let reached = leave_slot(
         alloc,
         setup,
         window,
-        fault,
-        one,
+        beside.fault,
+        beside.one,
         at.passed,
         at.seen,
         at.possible,
@@ -75,7 +75,81 @@ fn leave_going<N: World>(
     Ok(comes_to(reached.slot, reached.passed))
 }
 
-/// A fault behind a slot: it went through it in lockstep, or it is run whole through it, if it hasn't passed it.
+/// A fault behind a slot of which nothing was found before: it went through it in lockstep, or it is run whole through it, if it hasn't passed it.
+fn leave_open<N: World, L: Ledger>(
+    alloc: Global,
+    setup: &Setup<'_, N>,
+    window: &TraceWindow<N>,
+    strobes: &WindowStrobes,
+    machine: &mut Machine<'_>,
+    log: &mut SlotLog,
+    own: &mut ShardFault,
+    at: &mut FaultAt,
+    beside: FaultBeside,
+    slot: u32,
+    steps: &mut Steps<L>,
+) -> Result<(), NoMemory>
+    requires one { window.now.before ≡ 0 → window.now.through ≡ 1 }
+    requires more { window.now.before ≡ 0 → 1 < length (good_slots N.design N.plan) }
+    requires slot { window.now.before + slot < window.now.through }
+    requires room { IsRoom N.design machine.old }
+    requires strobes { AreStrobesOf N.design N.plan window.now.before window.now.through strobes.now }
+    requires behind { HasPassed N.design N.plan window.now.through (passed_behind strobes.now) }
+    requires none { own.old.end ≡ None }
+    requires went { WentThrough N.design N.plan window.now.before window.now.through slot own.old at.old beside }
+    ensures within { OnOk result (IsWithin N.design N.plan window.now.before window.now.through own.new at.new) }
+    ensures come { OnOk result (own.new.end ≡ None → slot + 1 ≤ at.new.slot) }
+    ensures stays { OnOk result (StaysFault own.old own.new) }
+    ensures room { OnOk result (IsRoom N.design machine.new) }
+    ensures ticks { OnOk result (RisesOwn N.design N.plan (λ tally. steps_of_fault tally (window.now.before + slot) own.old) (λ tally. steps_of_fault tally (window.now.before + (slot + 1)) own.new)
+        steps.old (steps.new + length beside.one.tried.items)) }
+{
+    slots_take_own();
+    own_gradings::own_steps_rise();
+    let design = setup.design();
+    if slot < at.slot {
+        return Ok(());
+    }
+    if beside.goes {
+        let came = leave_going(alloc, setup, window, beside, own, *at, slot)?;
+        *at = came;
+        return Ok(());
+    }
+    // What it took itself in the slot isn't taken again.
+    if window.begins() == 0 {
+        begin_fault(
+            alloc,
+            setup,
+            window,
+            1,
+            strobes,
+            beside.fault,
+            &beside.one.tried,
+            log,
+            own,
+            steps,
+        )?;
+        *at = comes_to(1, count_behind(setup, strobes));
+        return Ok(());
+    }
+    let came = run_whole(
+        alloc,
+        setup,
+        window,
+        strobes,
+        beside.fault,
+        &beside.one.tried,
+        machine,
+        log,
+        own,
+        *at,
+        steps,
+    )?;
+    *at = came;
+    Ok(())
+}
+
+/// A fault behind a slot. If its grading ended there it keeps no copy any more.
 fn leave_one<N: World, L: Ledger>(
     alloc: Global,
     setup: &Setup<'_, N>,
@@ -103,39 +177,15 @@ fn leave_one<N: World, L: Ledger>(
     ensures ticks { OnOk result (RisesOwn N.design N.plan (λ tally. steps_of_fault tally (window.now.before + slot) own.old) (λ tally. steps_of_fault tally (window.now.before + (slot + 1)) own.new)
         steps.old (steps.new + length beside.one.tried.items)) }
 {
-    slots_take_own();
     own_gradings::own_steps_rise();
     let design = setup.design();
     if own.end.is_some() {
         return Ok(());
     }
-    if slot < at.slot {
-        return Ok(());
-    }
-    let FaultBeside {
-        fault,
-        one,
-        goes,
-        ..
-    } = beside;
-    if goes {
-        let came = leave_going(alloc, setup, window, fault, one, own, *at, slot)?;
-        *at = came;
-        return Ok(());
-    }
-    // What it took itself in the slot isn't taken again.
-    let FaultInSlot { tried, .. } = one;
-    if window.begins() == 0 {
-        begin_fault(
-            alloc, setup, window, 1, strobes, fault, &tried, log, own, steps,
-        )?;
-        *at = comes_to(1, count_behind(setup, strobes));
-        return Ok(());
-    }
-    let came = run_whole(
-        alloc, setup, window, strobes, fault, &tried, machine, log, own, *at, steps,
+    leave_open(
+        alloc, setup, window, strobes, machine, log, own, at, beside, slot, steps,
     )?;
-    *at = came;
+    let_go_ended(alloc, own);
     Ok(())
 }
 

@@ -11,6 +11,7 @@
 mod enter;
 mod first;
 mod leave;
+mod let_go;
 mod room;
 mod slots;
 

@@ -60,11 +60,11 @@ module _ (f : ℕ → ℕ) (representatives : List ℕ) where
 
 -- what the counters rose by, said of the plan alone
 pub rose-own : {N : Type 0} → OwnStepsRise → (design : FlatDesign) (plan : TestPlan) (before after : ℕ) (work : Work N) → IsWork design plan work →
-    ((tally : OwnStepsOf design plan) → after ≤ before + (good_steps design plan + work_steps tally work.shards.items)) → RoseByOwn design plan before after
+    ((tally : OwnStepsOf design plan) → after ≤ before + (good_steps design plan + 2 * work_steps tally work.shards.items)) → RoseByOwn design plan before after
 rose-own law design plan before after work graded ticks = record {
   representatives = graded.closing.representatives;
   are_all = graded.closing.are_all;
-  within = λ steps each. law.exist design plan after (before + (good_steps design plan + sum steps)) (λ tally.
+  within = λ steps each. law.exist design plan after (before + (good_steps design plan + 2 * sum steps)) (λ tally.
       let same : work_steps tally work.shards.items ≡ sum_by (fault_steps_at tally) graded.closing.representatives =
       shards-sum (fault_steps_at tally) graded.closing.representatives work.shards.items graded.shards_are in
       let all : sum_by (fault_steps_at tally) graded.closing.representatives ≡ sum steps =

@@ -15,7 +15,7 @@ use Rattle.verdict_words.specs.Rule.{times}
 use Rattle.verdict_words.specs.declared.view.View.{View}
 use Rattle.shard_rounds.specs.copy_shard.declared.together.ClaimedShard.{ClaimedShard}
 use Rattle.shard_rounds.specs.shard_claims.Workers.{IsClaimed, KeepsShards}
-use Rattle.shard_rounds.specs.shard_crew.Crews.{IsFoundShard, claimed_most}
+use Rattle.shard_rounds.specs.shard_findings.Gatherings.{IsFoundShard, claimed_most}
 use Rattle.v_design.specs.Designs.{FlatDesign, TestPlan}
 use Rattle.own_gradings.specs.Numbers.{OwnStepsOf}
 use Rattle.shard_workers.specs.Ordered.{claim_number, claimed_shard, work_steps, AreOrdered}

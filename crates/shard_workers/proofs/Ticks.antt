@@ -1,11 +1,17 @@
 -- Counters that no worker has stay.
-use Rattle.std.proofs.Common.{◌≡◌, ℕ, ◌+◌, List, ◌++◌, arith}
-use Rattle.std.specs.Prelude.{sum}
+use Rattle.std.proofs.Common.{◌≡◌, ℕ, ◌+◌, List, [], ◌∷◌, ◌++◌, length, refl, arith}
+use Rattle.std.specs.Prelude.{slice_index, sum}
 use Rattle.std.proofs.lemmas.List.Sums.{sum_by-append}
 use Rattle.v_design.specs.Designs.{FlatDesign, TestPlan}
 use Rattle.shard_workers.specs.declared.grade.Graded.{Graded}
 use Rattle.shard_workers.specs.declared.grade.Graded.TheVariants.{Findings, GoodLoop}
 use Rattle.shard_workers.specs.Closings.{GradedTicks}
+
+-- the first counter is the only one of the calling thread
+pub first-is : (own rest : List ℕ) → length own ≡ 1 → slice_index (own ++ rest) 0 ≡ sum own
+first-is [] rest one = absurd (omega (arith, one))
+first-is (n ∷ []) rest one = (let s : sum (n ∷ []) ≡ 0 + n = refl in omega (arith, s))
+first-is (n ∷ (m ∷ more)) rest one = absurd (omega (arith, one))
 
 module _ {N : Type 0} (design : FlatDesign) (plan : TestPlan) where
   -- what the first counter and the workers' rise by, all rise by

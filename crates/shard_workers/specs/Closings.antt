@@ -55,7 +55,7 @@ module _ {N : Type 0} where
     pub closing : IsClosing design plan work.closed
     pub shards_are : AreShardsDone closing.representatives work.shards.items
 
-  -- where all faults were graded, counters rose by no more than the process steps of the good first run, and all own steps of each fault that stands for its class
+  -- where all faults were graded, counters rose by no more than the process steps of the good first run, and twice all own steps of each fault that stands for its class
   abbrev pub GradedTicks : FlatDesign → TestPlan → ℕ → ℕ → Graded N → Type 0
   GradedTicks design plan before after (Findings work) = RoseByOwn design plan before after
   GradedTicks design plan before after (GoodLoop time) = Unit {0}

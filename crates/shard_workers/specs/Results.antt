@@ -1,5 +1,5 @@
 -- What grading a plan answers (grades over first runs, and over all legal orders, by IEEE 1364-2001, clause 5).
-use Rattle.std.specs.Prelude.{ℕ, ◌+◌, ◌≤◌, false, List, length, sum}
+use Rattle.std.specs.Prelude.{ℕ, ◌+◌, ◌*◌, ◌≤◌, false, List, length, sum}
 use Rattle.std.specs.List.{AllZip}
 use Rattle.v_design.specs.Designs.{FlatDesign, TestPlan}
 use Rattle.v_design.specs.Laws.{ReportHolds}
@@ -23,11 +23,11 @@ abbrev pub StandsInEveryOrder : FlatDesign → TestPlan → PlanGrades → Type 
 StandsInEveryOrder design plan (Findings findings) = ReportHolds design plan (grades_of findings.items) × AllZip (SpeaksOfOrders design plan) plan.faults (grades_of findings.items)
 StandsInEveryOrder design plan (GoodLoop time) = Unit {0}
 
--- counters rose by no more than the process steps of the good first run, and all own steps of each fault that stands for its class
+-- counters rose by no more than the process steps of the good first run, and twice all own steps of each fault that stands for its class
 pub record RoseByOwn (design : FlatDesign) (plan : TestPlan) (before after : ℕ) : Type 0 where
   pub representatives : List ℕ
   pub are_all : AreRepresentatives design plan.faults representatives
-  pub within : (steps : List ℕ) → AllZip (TakesOwn design plan false) representatives steps → after ≤ before + (good_steps design plan + sum steps)
+  pub within : (steps : List ℕ) → AllZip (TakesOwn design plan false) representatives steps → after ≤ before + (good_steps design plan + 2 * sum steps)
 
 -- so they rose where all faults were graded
 abbrev pub PlanTicks : FlatDesign → TestPlan → ℕ → ℕ → PlanGrades → Type 0

@@ -1,12 +1,14 @@
 // Grading by workers over one board.
 
-ghost use Rattle.std.specs.Prelude.{◌≡◌, ◌+◌, ◌<◌, ◌≤◌, ◌^◌, ℕ, length, sum, IfOk};
+ghost use Rattle.std.specs.Prelude.{◌≡◌, ◌+◌, ◌<◌, ◌≤◌, ◌^◌, ℕ, length, slice_index, sum, sum_by, IfOk};
 ghost use Rattle.v_design.specs.PlainDesigns.{design_of, plan_of};
+ghost use Rattle.v_design.specs.OwnSteps.{good_steps};
 ghost use Rattle.v_design.specs.WellFormed.{IsPlanOf, KeepsRules};
 ghost use Rattle.shard_rounds.specs.fault_grade.Results.{LoopsAt};
 ghost use Rattle.fault_shards.specs.Shards.{representatives_of};
 ghost use Rattle.shard_rounds.specs.shard_claims.Workers.{IsPlaceOf};
-ghost use Rattle.shard_rounds.specs.shard_crew.Crews.{claimed_most, HasGathered};
+ghost use Rattle.shard_rounds.specs.copy_shard.Shards.{fault_steps_at};
+ghost use Rattle.shard_rounds.specs.shard_findings.Gatherings.{claimed_most, HasGathered};
 ghost use Rattle.shard_workers.specs.Closings.{IsWork, IsAllGraded, GradedTicks};
 ghost use Rattle.own_gradings.specs.Numbers.{OwnStepsOf};
 ghost use Rattle.shard_workers.specs.Ordered.{work_steps};
@@ -52,6 +54,7 @@ fn close_work<N: World>(
     requires goes_on { (time : ℕ) → LoopsAt N.design N.plan time → ⊥ }
     ensures work { IfOk result (IsWork N.design N.plan) }
     ensures steps { IfOk result (λ work. (tally : OwnStepsOf N.design N.plan) → claimed_most tally gathered.shards.items ≡ work_steps tally work.shards.items) }
+    ensures all { IfOk result (λ work. (tally : OwnStepsOf N.design N.plan) → work_steps tally work.shards.items ≡ sum_by (fault_steps_at tally) (representatives_of shards.now)) }
 {
     fault_shards::shards_cover();
     let Gathered {
@@ -82,6 +85,7 @@ fn work_all<N: World, R: Threads + Sync, G: Gate + Sync, L: Ledger + Send + Sync
     requires one { length own.old ≡ 1 }
     ensures graded { IfOk result (IsAllGraded N.design N.plan) }
     ensures ticks { IfOk result (GradedTicks N.design N.plan (sum own.old + sum steps.old) (sum own.new + sum steps.new)) }
+    ensures good { IfOk result (λ _. sum own.new ≤ sum own.old + good_steps N.design N.plan) }
 {
     own_gradings::own_steps_rise();
     let design = setup.design();
@@ -108,8 +112,9 @@ fn work_all<N: World, R: Threads + Sync, G: Gate + Sync, L: Ledger + Send + Sync
 /// Grades all listed faults of the world's plan by so many workers, each a thread with a counter of its own; the first counter is the calling thread's.
 ///
 /// Which worker grades which fault, and in what order, depends on the schedule; what is answered doesn't. Where no thread can be started the calling
-/// thread does the work. Where all faults are graded, all counters together rise by no more than the process steps of the good first run and the own steps of each fault
-/// that stands for its class; where the good machine loops, or memory is wanting, nothing is said of them.
+/// thread does the work. Where all faults are graded, all counters together rise by no more than the process steps of the good first run and twice the own steps of
+/// each fault that stands for its class, since a worker that is through with its own shards may run copies of others. Where the good machine loops, the first counter alone is
+/// spoken of: then too it rises by no more than the process steps of the good first run. Where memory is wanting nothing is said of them.
 ///
 /// # Errors
 ///
@@ -129,6 +134,7 @@ pub fn grade_all<N: World, R: Threads + Sync, G: Gate + Sync, L: Ledger + Send +
     requires counters { workers < length steps.old }
     ensures graded { IfOk result (IsAllGraded (design_of design.now) (plan_of plan.now)) }
     ensures ticks { IfOk result (GradedTicks (design_of design.now) (plan_of plan.now) (sum steps.old) (sum steps.new)) }
+    ensures good { IfOk result (λ _. slice_index steps.new 0 ≤ slice_index steps.old 0 + good_steps (design_of design.now) (plan_of plan.now)) }
 {
     let graph = Graph::new(alloc, design)?;
     let setup = Setup::<N>::new(alloc, design, &graph, plan)?;

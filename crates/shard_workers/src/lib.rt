@@ -7,8 +7,8 @@
 //! faults in list order (first runs and races by IEEE 1364-2001, clause 5), or exactly the good machine's loop; and the closed board shows that each shard was claimed
 //! once and that the words of just those faults that stand for their classes were moved, each to the code of its grade.
 //!
-//! Where all faults are graded, all counters together rise by no more than the process steps of the good first run and the own steps of each fault that stands for
-//! its class: the steps of those of its runs that the good machine doesn't take as well.
+//! Where all faults are graded, all counters together rise by no more than the process steps of the good first run and twice the own steps of each fault that stands for
+//! its class: the steps of those of its runs that the good machine doesn't take as well. Twice, since a worker that is through with its own shards may run copies of others.
 //!
 //! `grade_plan` picks the design and the plan of which the board speaks, and adds what each finding says of every pair of legal event orders.
 #![tactic(auto)]

@@ -1,8 +1,9 @@
 // Grading a plan, of which contracts speak without a board.
 
-ghost use Rattle.std.specs.Prelude.{◌≡◌, ◌<◌, ◌≤◌, ℕ, length, sum, IfOk};
+ghost use Rattle.std.specs.Prelude.{◌≡◌, ◌+◌, ◌<◌, ◌≤◌, ℕ, length, slice_index, sum, IfOk};
 ghost use Rattle.v_design.specs.Designs.{FlatDesign, TestPlan};
 ghost use Rattle.v_design.specs.PlainDesigns.{design_of, plan_of};
+ghost use Rattle.v_design.specs.OwnSteps.{good_steps};
 ghost use Rattle.v_design.specs.WellFormed.{IsPlanOf};
 ghost use Rattle.shard_workers.specs.Closings.{GradedTicks, IsAllGraded};
 ghost use Rattle.shard_workers.specs.Results.{IsGraded, PlanTicks, StandsInEveryOrder};
@@ -50,6 +51,7 @@ fn grade_world<N: World, R: Threads + Sync, G: Gate + Sync, L: Ledger + Send + S
     requires counters { workers < length steps.old }
     ensures grades { IfOk result (IsGraded (design_of design.now) (plan_of plan.now)) }
     ensures ticks { IfOk result (PlanTicks (design_of design.now) (plan_of plan.now) (sum steps.old) (sum steps.new)) }
+    ensures good { IfOk result (λ _. slice_index steps.new 0 ≤ slice_index steps.old 0 + good_steps (design_of design.now) (plan_of plan.now)) }
 {
     let graded = grade_all::<N, _, _, _>(rt, alloc, design, plan, workers, gate, steps)?;
     let grades = without_board(graded);
@@ -59,7 +61,8 @@ fn grade_world<N: World, R: Threads + Sync, G: Gate + Sync, L: Ledger + Send + S
 /// The findings on all listed faults of a plan, or the time at which the good machine loops, by so many workers.
 ///
 /// The first counter is the calling thread's, and each worker has one of those behind it. Where all faults are graded, all counters together rise by no more than the
-/// process steps of the good first run and the own steps of each fault that stands for its class.
+/// process steps of the good first run and twice the own steps of each fault that stands for its class. The first counter rises by no more than the process steps of the good
+/// first run also where the good machine loops.
 ///
 /// # Errors
 ///
@@ -80,6 +83,7 @@ pub fn grade_plan<R: Threads + Sync, G: Gate + Sync, L: Ledger + Send + Sync>(
     ensures grades { IfOk result (IsGraded (design_of design.now) (plan_of plan.now)) }
     ensures every_order { IfOk result (StandsInEveryOrder (design_of design.now) (plan_of plan.now)) }
     ensures ticks { IfOk result (PlanTicks (design_of design.now) (plan_of plan.now) (sum steps.old) (sum steps.new)) }
+    ensures good { IfOk result (λ _. slice_index steps.new 0 ≤ slice_index steps.old 0 + good_steps (design_of design.now) (plan_of plan.now)) }
 {
     order_laws::reports();
     order_laws::orders_exist();

@@ -146,7 +146,7 @@ fn copy_box(alloc: Global, expr: &Expr) -> Result<Box<Expr>, NoMemory>
 
 /// Parts with the same views.
 #[cycle(copy_expression)]
-pub fn copy_parts(alloc: Global, parts: &[Expr]) -> Result<Vec<Expr>, NoMemory>
+fn copy_parts(alloc: Global, parts: &[Expr]) -> Result<Vec<Expr>, NoMemory>
     ensures { IfOk result (λ copy. map expression_of copy.items ≡ map expression_of parts.now) }
 {
     let mut copies = Vec::new(alloc);

@@ -1,16 +1,11 @@
-//! Copies of syntax trees and of their parts (IEEE 1364-2001, annex A).
+//! Copies of texts and of expressions (IEEE 1364-2001, annex A.8).
 //!
-//! `copy_tree` gives a tree with the same plain view (`Views` of the trees' crate): the same modules, items, statements and expressions, each with its place.
-//! `copy_expr`, `copy_target`, `copy_waits` and the others do so for the parts of a tree. A call answers nothing else than that copy or want of memory.
+//! `copy_expr` gives an expression with the same plain view (`Views` of the trees' crate), each part with its place, and `copy_text` a text with the same bytes.
+//! A call answers nothing else than that copy or want of memory. `both` is the one `?` behind two calls that may lack it.
 #![tactic(auto)]
 
 mod copied;
-mod copy_item;
-mod copy_statement;
 mod expression;
-mod select;
 
 pub use copied::both;
-pub use copy_item::copy_tree;
-pub use expression::{copy_expr, copy_parts, copy_text};
-pub use select::{copy_assigned, copy_optional, copy_target, copy_waits};
+pub use expression::{copy_expr, copy_text};

@@ -95,29 +95,6 @@ pub many-times : (count width : ℕ) → most_bits < count → (count * width �
 many-times count zero h = inl (let e : count * 0 ≡ 0 = omega arith in e)
 many-times count (suc width) h = let e : count * suc width ≡ count + count * width = omega arith in inr (omega (arith, h, e))
 
-fitting-where : (width : ℕ) (test : Bool) → (nat_le 1 width && nat_le width most_bits) ≡ test → fitting (Some width) ≡ cond test (Some width) None
-fitting-where width test e = ap (λ b. cond b (Some width) None) e
-
-pub total-fitting : (width : Option ℕ) → total_size (fitting width) ≡ total_size width
-total-fitting None = refl
-total-fitting (Some width) = by (nat_le 1 width && nat_le width most_bits) refl
-  where
-    by : (test : Bool) → (nat_le 1 width && nat_le width most_bits) ≡ test → total_size (fitting (Some width)) ≡ total_size (Some width)
-    by true e = ap total_size (fitting-where width true e)
-    by false e = let f = fitting-where width false e in ap total_size f ∙ sym (total-none (Some width) f)
-
-none-times : (count : Option ℕ) → repeated_size count None ≡ None
-none-times None = refl
-none-times (Some count) = refl
-
-pub repeated-fitting : (count width : Option ℕ) → repeated_size count (fitting width) ≡ repeated_size count width
-repeated-fitting count None = refl
-repeated-fitting count (Some width) = by (nat_le 1 width && nat_le width most_bits) refl
-  where
-    by : (test : Bool) → (nat_le 1 width && nat_le width most_bits) ≡ test → repeated_size count (fitting (Some width)) ≡ repeated_size count (Some width)
-    by true e = ap (repeated_size count) (fitting-where width true e)
-    by false e = let f = fitting-where width false e in ap (repeated_size count) f ∙ none-times count ∙ sym (repeated-none count (Some width) f)
-
 pub repeated-without : (width : Option ℕ) (count : Option ℕ) → count ≡ None → repeated_size count width ≡ None
 repeated-without width count e = ap (λ n. repeated_size n width) e
 

@@ -42,50 +42,10 @@ plus-wide n (Some m) h = wide-none (n + m) (omega (arith, h))
 pub drop-step : {A : Type 0} (xs : List A) (i : ℕ) (x : A) → i < length xs → x ≡ get_or xs i x → drop i xs ≡ x ∷ drop (i + 1) xs
 drop-step xs i x below at = drop_more xs i x below ∙ ap (λ y. y ∷ drop (i + 1) xs) (sym at)
 
--- Sizes
-
-pub width-start : (scope : Scope) (parts : List Expr) → parts_width scope (expressions_of parts) ≡ plus_width 0 (parts_width scope (expressions_of parts))
-width-start scope parts = plus-start (parts_width scope (expressions_of parts))
-
-width-left : (scope : Scope) (parts : List Expr) (i : ℕ) (part : Expr) (total : ℕ) → i < length parts → part ≡ get_or parts i part
-    → parts_width scope (expressions_of parts) ≡ plus_width total (parts_width scope (expressions_of (drop i parts)))
-    → parts_width scope (expressions_of parts) ≡ plus_width total (part_and_rest (is_unsized_number (expression_of part)) (own_size scope (expression_of part))
-    (parts_width scope (expressions_of (drop (i + 1) parts))))
-width-left scope parts i part total below at h = h ∙ ap (λ l. plus_width total (parts_width scope (expressions_of l))) (drop-step parts i part below at)
-
 part-none : (u : Bool) (o : Option Size) (rest : Option ℕ) → (u ≡ true) ⊎ (o ≡ None) → part_and_rest u o rest ≡ None
 part-none true o rest h = refl
 part-none false o rest (inl e) = cc
 part-none false o rest (inr e) = ap (λ x. width_with x rest) e
-
--- a part that has no width, or doesn't say its size
-pub width-none : (scope : Scope) (parts : List Expr) (i : ℕ) (part : Expr) (total : ℕ) → i < length parts → part ≡ get_or parts i part
-    → parts_width scope (expressions_of parts) ≡ plus_width total (parts_width scope (expressions_of (drop i parts)))
-    → (is_unsized_number (expression_of part) ≡ true) ⊎ (own_size scope (expression_of part) ≡ None) → None ≡ fitting (parts_width scope (expressions_of parts))
-width-none scope parts i part total below at h e =
-    sym (ap fitting (width-left scope parts i part total below at h
-    ∙ ap (plus_width total) (part-none (is_unsized_number (expression_of part)) (own_size scope (expression_of part)) (parts_width scope (expressions_of (drop (i + 1) parts))) e)))
-
--- a part with a width
-pub width-more : (scope : Scope) (parts : List Expr) (i : ℕ) (part : Expr) (total : ℕ) (z : Size) → i < length parts → part ≡ get_or parts i part
-    → parts_width scope (expressions_of parts) ≡ plus_width total (parts_width scope (expressions_of (drop i parts)))
-    → is_unsized_number (expression_of part) ≡ false → own_size scope (expression_of part) ≡ Some z
-    → parts_width scope (expressions_of parts) ≡ plus_width (total + z.width) (parts_width scope (expressions_of (drop (i + 1) parts)))
-width-more scope parts i part total z below at h u o =
-    width-left scope parts i part total below at h ∙ ap₂ (λ b x. plus_width total (part_and_rest b x (parts_width scope (expressions_of (drop (i + 1) parts))))) u o
-    ∙ plus-step total z (parts_width scope (expressions_of (drop (i + 1) parts)))
-
-pub width-wide : (scope : Scope) (parts : List Expr) (i : ℕ) (part : Expr) (total : ℕ) (z : Size) → i < length parts → part ≡ get_or parts i part
-    → parts_width scope (expressions_of parts) ≡ plus_width total (parts_width scope (expressions_of (drop i parts)))
-    → is_unsized_number (expression_of part) ≡ false → own_size scope (expression_of part) ≡ Some z → most_bits < total + z.width
-    → None ≡ fitting (parts_width scope (expressions_of parts))
-width-wide scope parts i part total z below at h u o w =
-    sym (ap fitting (width-more scope parts i part total z below at h u o) ∙ plus-wide (total + z.width) (parts_width scope (expressions_of (drop (i + 1) parts))) w)
-
-pub width-end : (scope : Scope) (parts : List Expr) (i : ℕ) (total : ℕ) → length parts ≤ i
-    → parts_width scope (expressions_of parts) ≡ plus_width total (parts_width scope (expressions_of (drop i parts))) → fitting (Some total) ≡ fitting (parts_width scope (expressions_of parts))
-width-end scope parts i total past h =
-    ap fitting (sym (h ∙ ap (λ l. plus_width total (parts_width scope (expressions_of l))) (drop_all i parts past) ∙ plus-end total))
 
 -- Constants
 

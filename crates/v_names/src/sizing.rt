@@ -6,7 +6,7 @@ ghost use Rattle.four_value.specs.Values.{top_bit};
 ghost use Rattle.v_design.specs.Sized.{span, unary_sizing, binary_sizing};
 ghost use Rattle.v_tree.specs.Views.{expression_of};
 ghost use Rattle.v_names.specs.Readings.{is_signed_number, is_unsized_number, runs_alike, larger_size};
-ghost use Rattle.v_names.specs.OwnSizes.{size_within, size_after, entry_size, span_size, indexed_size, part_size, unary_size, binary_size, total_size, repeated_size};
+ghost use Rattle.v_names.specs.OwnSizes.{size_within, span_size, part_size, repeated_size};
 ghost use Rattle.v_names.specs.ScopeViews.{entry_of};
 ghost use Rattle.v_names.specs.SizeViews.{size_of, unary_sizing_of, binary_sizing_of};
 
@@ -154,59 +154,6 @@ pub fn span(high: u32, low: u32) -> u64
     u64::from(high.max(low)) - u64::from(high.min(low)) + 1
 }
 
-/// The size of a name alone.
-pub fn entry_size(entry: &Option<Entry>) -> Option<Size>
-    ensures { option_map size_of result ≡ entry_size (option_map entry_of entry.now) }
-{
-    match entry {
-        None => None,
-        Some(Entry::Param(value, signed)) => size_within(u64::from(value.width()), *signed),
-        Some(Entry::RefusedParam) => Some(one_bit()),
-        Some(Entry::WaitingParam) => Some(one_bit()),
-        Some(
-            Entry::Net {
-                high,
-                low,
-                signed,
-                ..
-            },
-        ) => size_within(span(*high, *low), *signed),
-        Some(
-            Entry::Reg {
-                high,
-                low,
-                signed,
-                ..
-            },
-        ) => size_within(span(*high, *low), *signed),
-        Some(Entry::Memory { .. }) => None,
-        Some(Entry::Gate) => None,
-        Some(Entry::Instance) => None,
-    }
-}
-
-/// The size of a name with an index: a bit of a vector, or a word of a memory.
-pub fn indexed_size(entry: Option<Entry>, index: Option<Size>) -> Option<Size>
-    ensures { option_map size_of result ≡ indexed_size (option_map entry_of entry) (option_map size_of index) }
-{
-    match (entry, index) {
-        (Some(Entry::Net { ranged: true, .. }), Some(_)) => Some(one_bit()),
-        (Some(Entry::Reg { ranged: true, .. }), Some(_)) => Some(one_bit()),
-        (
-            Some(
-                Entry::Memory {
-                    high,
-                    low,
-                    signed,
-                    ..
-                },
-            ),
-            Some(_),
-        ) => size_within(span(high, low), signed),
-        _ => None,
-    }
-}
-
 /// Whether a part's bounds run as its declaration's do; equal bounds of a part fit either way.
 pub fn runs_alike(high: u32, low: u32, from: u128, to: u128) -> bool
     ensures { result ≡ runs_alike (record { ranged = true; high = high; low = low }) from to }
@@ -276,55 +223,6 @@ pub fn larger(one: Size, other: Size) -> Size
     Size {
         width: one.width.max(other.width),
         signed: one.signed && other.signed,
-    }
-}
-
-/// The size of an operator's answer.
-pub fn unary_size(sizing: UnarySizing, operand: Option<Size>) -> Option<Size>
-    ensures { option_map size_of result ≡ unary_size (unary_sizing_of sizing) (option_map size_of operand) }
-{
-    match (sizing, operand) {
-        (UnarySizing::OperandWithWhole, operand) => operand,
-        (UnarySizing::OperandAlone, Some(_)) => Some(one_bit()),
-        (UnarySizing::OperandAlone, None) => None,
-    }
-}
-
-/// The size of an operator's answer.
-pub fn binary_size(sizing: BinarySizing, left: Option<Size>, right: Option<Size>) -> Option<Size>
-    ensures { option_map size_of result ≡ binary_size (binary_sizing_of sizing) (option_map size_of left) (option_map size_of right) }
-{
-    match (left, right) {
-        (Some(left), Some(right)) => match sizing {
-            BinarySizing::BothWithWhole => Some(larger(left, right)),
-            BinarySizing::LeftWithWhole => Some(left),
-            BinarySizing::BothTogether | BinarySizing::EachAlone => Some(one_bit()),
-        },
-        _ => None,
-    }
-}
-
-/// The size of a choice of two expressions by a condition.
-pub fn choice_size(
-    condition: Option<Size>,
-    first: Option<Size>,
-    second: Option<Size>,
-) -> Option<Size>
-    ensures { option_map size_of result ≡ size_after (option_map size_of condition) (larger_size (option_map size_of first) (option_map size_of second)) }
-{
-    match (condition, first, second) {
-        (Some(_), Some(first), Some(second)) => Some(larger(first, second)),
-        _ => None,
-    }
-}
-
-/// The size of a concatenation whose parts have this width together.
-pub fn total_size(total: Option<u8>) -> Option<Size>
-    ensures { option_map size_of result ≡ total_size total }
-{
-    match total {
-        None => None,
-        Some(total) => size_within(u64::from(total), false),
     }
 }
 

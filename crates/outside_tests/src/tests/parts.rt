@@ -9,7 +9,7 @@ use net_graph::Graph;
 use soak_text::{design_text, plan_text};
 use std::test::Fail;
 use top_call::read_design;
-use v_copy::copy_tree;
+use tree_copies::copy_tree;
 use v_elab::Mode;
 use v_names::Scope;
 use v_parse::parse;

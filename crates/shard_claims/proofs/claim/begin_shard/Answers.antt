@@ -1,6 +1,6 @@
 -- A shard of its claim's faults goes through the first window.
 use Rattle.std.proofs.Common.{ap, ◌∙◌, arith}
-use Rattle.copy_shard.specs.Shards.{ShardKept, places_of}
+use Rattle.shard_turns.specs.copy_shard.Shards.{ShardKept, places_of}
 use Rattle.fault_shards.specs.Shards.{representatives_of}
 use Rattle.shard_claims.proofs.Claiming.{shard-listed, places-fresh}
 use Rattle.shard_claims.proofs.claim.begin_shard.Goals as goal

@@ -6,7 +6,7 @@ use Rattle.verdict_words.specs.Views.{with_claim, with_none}
 use Rattle.verdict_words.specs.declared.view.View.{View}
 use Rattle.shard_claims.specs.Workers.{KeepsShards}
 use Rattle.shard_claims.specs.WorkerLaws.{keeps-none}
-use Rattle.shard_claims.proofs.Claiming.{keeps-more}
+use Rattle.shard_claims.proofs.Claiming.{keeps-more, moved-none}
 use Rattle.shard_claims.proofs.Ticks.{claimed-more}
 use Rattle.shard_claims.proofs.claim.claim_all.Goals as goal
 
@@ -35,7 +35,7 @@ returns-in_default-clause-claimed g c =
     let after : view c.claim-next.result.0 ≡ with_none before = subst (λ (o : Option ℕ). IfNone o (view c.claim-next.result.0 ≡ with_none before)) c.in_default.is c.claim-next.ensures.none in record {
       own = c.claim-next.ensures.own;
       share = ap (λ (v : View). v.share) after ∙ c.claims.invariant.share;
-      moved = ap (λ (v : View). v.moved) after ∙ c.claims.invariant.moved;
+      moved = moved-none (representatives_of c.args.round.now.shards.now) (view c.claim-next.result.0).moved (ap (λ (v : View). v.moved) after ∙ c.claims.invariant.moved);
       dry = ap (λ (v : View). v.dry) after;
       keeps = record { claimed = ap (λ (v : View). v.claimed) after ∙ c.claims.invariant.keeps.claimed; each = c.claims.invariant.keeps.each };
     }
@@ -66,7 +66,7 @@ claims-preserved g c =
       keeps =
           subst (KeepsShards (representatives_of c.args.round.now.shards.now) c.args.round.now.window.now.through (view c.claim-next.result.0)) (sym c.in_ok-push.ensures.items)
           (keeps-more _ _ before (view c.claim-next.result.0) c.claims.shards.items _ c.claims.invariant.keeps (ap (λ (v : View). v.claimed) after)
-          (record { faults = c.in_ok-shard.ensures.faults; gone_is = c.in_ok-shard.ensures.gone }));
+          (record { low = subst (λ n. number < n) c.requires.place.claims drawn.0; faults = c.in_ok-shard.ensures.faults; gone_is = c.in_ok-shard.ensures.gone }));
       ticks = λ tally.
           claimed-more g.N.World.design g.N.World.plan tally c.claims.shards.items c.push.new.self.items _ c.args.steps.now c.claims.steps c.begin_shard.new.steps c.in_ok-push.ensures.items
           (c.claims.invariant.ticks tally) (c.in_ok-shard.ensures.ticks tally);

@@ -1,35 +1,19 @@
--- A worker that claimed goes on, and a new one claims.
-use Rattle.std.proofs.Common.{true, refl}
-use Rattle.fault_shards.specs.Shards.{representatives_of}
-use Rattle.shard_claims.specs.WorkerLaws.{has-claimed, is-new}
-use Rattle.shard_claims.proofs.Claiming.{has-gone, stands-claimed}
-use Rattle.shard_claims.proofs.Ticks.{dry-rises, new-rises}
+-- What the worker's own shards take, and then those of the slots.
+use Rattle.std.proofs.Common.{arith}
+use Rattle.shard_turns.proofs.Seats.{fresh-stays, visited-on}
 use Rattle.shard_claims.proofs.worker.work_in.Goals as goal
 
-pub advance_all-requires-after_bounds : goal.advance_all-requires-after_bounds
-advance_all-requires-after_bounds g c κs within =
-    (has-claimed (representatives_of c.args.round.now.shards.now) c.args.round.now.board.now c.args.round.now.window.now.before c.args.worker c.if-dry.true c.requires.at).keeps.each
+pub work_beside-requires-clause-fresh : goal.work_beside-requires-clause-fresh
+work_beside-requires-clause-fresh g c κs within =
+    fresh-stays c.args.round.now.backups.now c.args.seated.backup c.in_ok-own.own.backup c.requires.fresh c.in_ok-own.ensures.backup
 
-pub returns-then-dry-clause-through : goal.returns-then-dry-clause-through
-returns-then-dry-clause-through g c =
-    stands-claimed (representatives_of c.args.round.now.shards.now) c.args.round.now.board.now c.args.round.now.window.now.through _ c.if-dry.true
-    (has-gone (representatives_of c.args.round.now.shards.now) c.args.round.now.board.now c.args.round.now.window.now.before c.args.round.now.window.now.through c.args.worker _ c.if-dry.true
-    c.requires.at c.in_ok-advance_all.ensures.numbers c.in_ok-advance_all.ensures.through)
-
-pub claim_all-requires-clause-first : goal.claim_all-requires-clause-first
-claim_all-requires-clause-first g c κs within =
-    (is-new (representatives_of c.args.round.now.shards.now) c.args.round.now.board.now c.args.round.now.window.now.before c.args.worker c.if-dry.false c.requires.at).1
-
-pub claim_all-requires-clause-new : goal.claim_all-requires-clause-new
-claim_all-requires-clause-new g c κs within =
-    (is-new (representatives_of c.args.round.now.shards.now) c.args.round.now.board.now c.args.round.now.window.now.before c.args.worker c.if-dry.false c.requires.at).0
-
-pub returns-then-dry-clause-ticks : goal.returns-then-dry-clause-ticks
-returns-then-dry-clause-ticks g c tally =
-    dry-rises g.N.World.design g.N.World.plan tally c.args.worker (record c.args.worker { shards = c.advance_all.new.shards }) c.args.steps.now c.advance_all.new.steps c.if-dry.true c.if-dry.true
-    (c.in_ok-advance_all.ensures.ticks tally)
+pub returns-clause-visited : goal.returns-clause-visited
+returns-clause-visited g c =
+    visited-on c.args.round.now.backups.now c.args.seated.backup c.in_ok-own.own.backup c.in_ok-after.after.backup c.in_ok-own.ensures.backup c.in_ok-after.ensures.visited
 
 pub returns-clause-ticks : goal.returns-clause-ticks
 returns-clause-ticks g c tally =
-    new-rises g.N.World.design g.N.World.plan tally c.args.worker (record c.args.worker { seat = c.in_ok-seat.seat; shards = c.in_ok-seat.shards; dry = true }) c.args.steps.now
-    c.claim_all.new.steps c.if-dry.false refl (c.in_ok-seat.ensures.ticks tally)
+    let own = c.in_ok-own.ensures.ticks tally in
+    let same = c.in_ok-after.ensures.same tally in
+    let visits = c.in_ok-after.ensures.ticks tally in
+    omega (arith, own, same, visits)

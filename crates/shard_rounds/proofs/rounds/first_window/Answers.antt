@@ -21,3 +21,8 @@ pub returns-in-Window-clause-ticks : goal.returns-in-Window-clause-ticks
 returns-in-Window-clause-ticks g c =
     let nothing : steps_of_slots g.N.World.design g.N.World.plan c.args.ahead.now.run.ran ≡ 0 = ap (steps_of_slots g.N.World.design g.N.World.plan) c.requires.none.1 in
     omega (arith, nothing, c.in_ok-next.ensures.ticks.rises)
+
+pub returns-in-Loops-clause-ticks : goal.returns-in-Loops-clause-ticks
+returns-in-Loops-clause-ticks g c =
+    let nothing : steps_of_slots g.N.World.design g.N.World.plan c.args.ahead.now.run.ran ≡ 0 = ap (steps_of_slots g.N.World.design g.N.World.plan) c.requires.none.1 in
+    omega (arith, nothing, c.in_ok-next.ensures.ticks.rises)

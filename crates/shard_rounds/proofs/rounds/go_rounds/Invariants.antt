@@ -5,15 +5,13 @@ use Rattle.fault_shards.specs.Shards.{representatives_of}
 use Rattle.std.specs.Prelude.{sum}
 use Rattle.good_windows.specs.Next.{steps_of_slots}
 use Rattle.shard_crew.specs.graded_steps.Behind.{RisesWithin}
-use Rattle.own_gradings.specs.Numbers.{RisesOwn}
-use Rattle.shard_crew.specs.Crews.{crew_steps}
-use Rattle.shard_rounds.specs.Rounds.{IsBeforeRound}
+use Rattle.shard_rounds.specs.Rounds.{CrewTicks, IsBeforeRound}
 use Rattle.shard_rounds.proofs.rounds.go_rounds.Given as goal
 
 abbrev pub invariant-rounds : goal.invariant-rounds
 invariant-rounds g l = record {
   before : IsBeforeRound g.N.World.design g.N.World.plan (representatives_of l.place.shards.now) l.place.board.now (length l.initial.steps) l.ahead.run l.rounds;
-  ticks : RisesOwn g.N.World.design g.N.World.plan (λ tally. crew_steps tally l.fn.rounds.workers.items) (λ tally. crew_steps tally l.rounds.workers.items)
+  ticks : CrewTicks g.N.World.design g.N.World.plan (representatives_of l.place.shards.now) l.fn.rounds.window.before l.rounds.window.before l.fn.rounds.workers.items l.rounds.workers.items
       (sum l.initial.steps) (sum l.steps);
   good :
       RisesWithin (steps_of_slots g.N.World.design g.N.World.plan l.initial.ahead.run.ran) (steps_of_slots g.N.World.design g.N.World.plan l.ahead.run.ran) (sum l.initial.own) (sum l.own);

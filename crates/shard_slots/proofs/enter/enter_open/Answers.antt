@@ -1,5 +1,5 @@
 -- What became of the fault.
-use Rattle.std.proofs.Common.{refl, sym, ap, subst, ◌∙◌, arith}
+use Rattle.std.proofs.Common.{suc, ◌+◌, refl, sym, ap, subst, ◌∙◌, arith}
 use Rattle.std.specs.Prelude.{Some, slice_get}
 use Rattle.v_design.specs.Plain.{fault_of}
 use Rattle.v_design.specs.declared.plan.Fault.{Fault}
@@ -9,6 +9,7 @@ use Rattle.copy_lockstep.specs.Entered.{HasEntered}
 use Rattle.copy_lockstep.specs.declared.entered.Entered.{Entered}
 use Rattle.copy_lockstep.specs.window_faults.Within.{IsWithin}
 use Rattle.shard_slots.specs.Slots.{Enters}
+use Rattle.shard_slots.proofs.Ended.{same-fault, still-ended}
 use Rattle.shard_slots.proofs.Entering.{ended-there, enters-there, passed-there, rests-there}
 use Rattle.shard_slots.proofs.enter.enter_open.Goals as goal
 
@@ -36,9 +37,14 @@ returns-in-Ended-clause-enters g c =
     let told = subst (λ (e : Entered). HasEntered g.N.World.design g.N.World.plan (fault_of c.args.fault) window (record { slot = c.args.at.now.slot; passed = c.args.at.now.passed }) c.args.last c.args.own.now c.enter.new.own e) c.in-Ended.is
     c.in_ok-entered.ensures.entered in
     ended-there g.N.World.design g.N.World.plan window.before window.through c.args.at.now.slot c.faults_go_on.ensures
-    (design-rules g.N.World.design c.design-design.result.now c.design-design.ensures.world) c.enter.new.own _ c.rests-in-Ended.result c.requires.slot told refl
-    (ap (slice_get g.N.World.plan.faults) c.in_ok-entered.ensures.place.number ∙ c.requires.listed ∙ ap (λ (f : Fault). Some (fault_of f)) (sym c.rests-in-Ended.ensures.fault)) c.rests-in-Ended.ensures.rests
+    (design-rules g.N.World.design c.design-design.result.now c.design-design.ensures.world) c.let_go_ended.new.own _ c.rests-in-Ended.result c.requires.slot
+    (still-ended c.enter.new.own c.let_go_ended.new.own c.let_go_ended.ensures g.N.World.design g.N.World.plan (suc (window.before + c.args.at.now.slot)) told) refl
+    (ap (slice_get g.N.World.plan.faults)
+    (same-fault c.enter.new.own c.let_go_ended.new.own c.let_go_ended.ensures c.args.own.now c.in_ok-entered.ensures.place).number ∙ c.requires.listed ∙ ap (λ (f : Fault). Some (fault_of f)) (sym c.rests-in-Ended.ensures.fault)) c.rests-in-Ended.ensures.rests
     c.rests-in-Ended.ensures.none
+
+pub returns-in-Ended-clause-place : goal.returns-in-Ended-clause-place
+returns-in-Ended-clause-place g c = same-fault c.enter.new.own c.let_go_ended.new.own c.let_go_ended.ensures c.args.own.now c.in_ok-entered.ensures.place
 
 pub returns-in-Whole-clause-enters : goal.returns-in-Whole-clause-enters
 returns-in-Whole-clause-enters g c =

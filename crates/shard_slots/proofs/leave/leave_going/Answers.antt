@@ -32,7 +32,7 @@ pub leave_first-requires-clause-through : goal.leave_first-requires-clause-throu
 leave_first-requires-clause-through g c κs within = λ first here.
     let zero : c.args.window.now.before ≡ 0 = sym c.begins.ensures.number ∙ c.if-begins-eq0.true in
     let gone : c.args.window.now.before + c.args.slot ≡ 0 = omega (arith, zero, c.requires.one zero, c.requires.slot) in
-    subst (λ (n : ℕ). IsCopyInLockstep g.N.World.design g.N.World.plan (fault_of c.args.fault) n first.begins.time (lockstep_differences c.args.one.own.copy)) gone
+    subst (λ (n : ℕ). IsCopyInLockstep g.N.World.design g.N.World.plan (fault_of c.args.beside.fault) n first.begins.time (lockstep_differences c.args.beside.one.own.copy)) gone
     (c.requires.through first (ap (slice_get (good_slots g.N.World.design g.N.World.plan)) gone ∙ here))
 
 pub returns-then-begins-eq0-clause-slot : goal.returns-then-begins-eq0-clause-slot
@@ -49,7 +49,7 @@ returns-then-begins-eq0-clause-fault g c =
 
 pub leave_slot-requires-clause-entered : goal.leave_slot-requires-clause-entered
 leave_slot-requires-clause-entered g c κs within =
-    later-enters g.N.World.design g.N.World.plan (fault_of c.args.fault) (c.args.window.now.before + c.args.slot) c.args.own.now c.args.at
+    later-enters g.N.World.design g.N.World.plan (fault_of c.args.beside.fault) (c.args.window.now.before + c.args.slot) c.args.own.now c.args.at
     (λ zero. omega (arith, zero, c.begins.ensures.number, c.if-begins-eq0.false)) c.requires.entered
 
 pub returns-clause-slot : goal.returns-clause-slot

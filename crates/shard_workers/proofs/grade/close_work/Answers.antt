@@ -12,6 +12,8 @@ use Rattle.verdict_words.specs.declared.rule.Sizes.{Sizes}
 use Rattle.verdict_words.specs.declared.view.View.{View}
 use Rattle.shard_workers.specs.Closings.{IsEachOnce}
 use Rattle.shard_workers.proofs.Closes.{found-below, work-is}
+use Rattle.shard_rounds.specs.copy_shard.Shards.{fault_steps_at}
+use Rattle.shard_workers.proofs.Gradings.{shards-sum}
 use Rattle.shard_workers.proofs.Ordering.{shards-done, steps-ordered}
 use Rattle.shard_workers.proofs.grade.close_work.Goals as goal
 
@@ -41,3 +43,16 @@ returns-clause-work g c =
 
 pub returns-clause-steps : goal.returns-clause-steps
 returns-clause-steps g c tally = steps-ordered g.N.World.design g.N.World.plan tally c.args.gathered.shards.items _ c.in_ok-shards.ensures
+
+pub returns-clause-all : goal.returns-clause-all
+returns-clause-all g c tally =
+    let v : View = view c.args.gathered.seat in
+    let closed = c.in_ok-closed.ensures in
+    let sizes : sizes_of c.in_ok-closed.closed ≡ c.args.board.sizes = closed.0 in
+    let last : last_view c.in_ok-closed.closed ≡ v = closed.1 in
+    let once : IsEachOnce c.args.board.sizes.claims v.claimed =
+    subst (λ (s : Sizes). IsEachOnce s.claims v.claimed) sizes (subst (λ (u : View). IsEachOnce (sizes_of c.in_ok-closed.closed).claims u.claimed) last
+    (closed.2.claimed (ap (λ (u : View). u.dry) last ∙ c.requires.gathered.dry))) in
+    shards-sum (fault_steps_at tally) (representatives_of c.args.shards.now) c.in_ok-shards.shards.items
+    (shards-done (representatives_of c.args.shards.now) _ c.args.board.sizes.claims v c.args.gathered.shards.items _ c.in_ok-shards.ensures c.requires.gathered.keeps c.requires.gathered.found once
+    c.requires.place.claims)

@@ -1,0 +1,10 @@
+use Rattle.std.proofs.Common.{map, ap, ◌∙◌}
+use Rattle.v_tree.specs.Views.{parameters_of}
+use Rattle.tree_copies.specs.Turns.{one-more}
+use Rattle.tree_copies.proofs.copy_item.copy_param_groups.Goals as goal
+
+pub groups-preserved : goal.groups-preserved
+groups-preserved c =
+    ap (map parameters_of) c.in_ok-push.ensures.items
+    ∙ one-more parameters_of c.args.groups.now c.groups.copies.items c.groups.group-index c.group-item.result c.in_ok-copy.copy c.groups-test.true c.group-item.is c.in_ok-copy.ensures
+    c.groups.invariant

@@ -1,0 +1,5 @@
+-- The counter is that of the call.
+use Rattle.turn_cases.proofs.run.run_text.Given as goal
+
+abbrev pub ghosts-counted_text : goal.ghosts-counted_text
+ghosts-counted_text a = record { name = a.blank.name; parts = a.blank.parts }

@@ -1,9 +1,0 @@
-use Rattle.std.proofs.Common.{map, ap, ◌∙◌}
-use Rattle.v_tree.specs.Views.{gate_of}
-use Rattle.v_copy.specs.Turns.{one-more}
-use Rattle.v_copy.proofs.copy_item.copy_gates.Goals as goal
-
-pub gates-preserved : goal.gates-preserved
-gates-preserved c =
-    ap (map gate_of) c.in_ok-push.ensures.items
-    ∙ one-more gate_of c.args.gates.now c.gates.copies.items c.gates.gate-index c.gate-item.result c.in_ok-copy.copy c.gates-test.true c.gate-item.is c.in_ok-copy.ensures c.gates.invariant

@@ -1,6 +1,0 @@
-use Rattle.std.proofs.Common.{◌≡◌, map, take}
-use Rattle.v_tree.specs.Views.{select_of}
-use Rattle.v_copy.proofs.select.copy_selects.Given as goal
-
-abbrev pub invariant-selects : goal.invariant-selects
-invariant-selects l = map select_of l.copies.items ≡ map select_of (take l.select-index l.selects)
