@@ -47,7 +47,7 @@ pub fn is_free<N: World>(
     if !reached_are_unread(setup, window, notes, &room.awaited, &room.own, end) {
         return false;
     }
-    let asked = some_is_read(setup, window, notes, &room.awaited, end);
+    let asked = some_is_read(setup, window, notes, &room.awaited, &room.own, end);
     let known = reach_phase(setup, window, notes, &mut room.phase, slot, end, asked);
     noted_are_free(
         setup,

@@ -222,7 +222,27 @@ fn is_met_settled<N: World>(
     !late.contains(object)
 }
 
-/// Whether it is told that no two accesses of an object conflict in the phase, or none that are left.
+/// Whether an object is a net piece that own writes reach: all of these are known to be unread.
+fn is_reached_net<N: World>(
+    setup: &Setup<'_, N>,
+    window: &TraceWindow<N>,
+    notes: &RaceNotes,
+    own: &Reached,
+    object: ObjectId,
+    end: u32,
+) -> bool
+    requires object { object_number object < length N.design.objects }
+    requires own_design { design_of own.now.design ≡ N.design }
+    requires unread { (other : ℕ) → has own.now.objects other ≡ true → has (net_pieces N.design) other ≡ true → IsUnreadNet (noted_phase N.design N.plan window.now notes.now end) other }
+    ensures { result ≡ true → IsUnreadNet (noted_phase N.design N.plan window.now notes.now end) (object_number object) }
+{
+    if !is_net_of(setup, object) {
+        return false;
+    }
+    own.contains(object)
+}
+
+/// Whether it is told that no two accesses of an object conflict in the phase, or none that are left. All net pieces that own writes reach are known to be unread.
 fn is_object_free<N: World>(
     setup: &Setup<'_, N>,
     window: &TraceWindow<N>,
@@ -241,12 +261,16 @@ fn is_object_free<N: World>(
     requires phase_design { design_of phase.now.design ≡ N.design }
     requires late_design { design_of late.old.design ≡ N.design }
     requires own { AreReached N.design notes.now.changed own.now }
+    requires unread { (other : ℕ) → has own.now.objects other ≡ true → has (net_pieces N.design) other ≡ true → IsUnreadNet (noted_phase N.design N.plan window.now notes.now end) other }
     requires phase { known ≡ true → PhaseIsReached (noted_phase N.design N.plan window.now notes.now end) phase.now }
     ensures design { late.new.design ≡ late.old.design }
     ensures free { result ≡ true → IsFreeHere (noted_phase N.design N.plan window.now notes.now end) (object_number object) }
 {
     if object.0 as usize >= object_count(setup) {
         return false;
+    }
+    if is_reached_net(setup, window, notes, own, object, end) {
+        return true;
     }
     if is_unread_net(setup, window, notes, awaited, object, end) {
         return true;
@@ -275,6 +299,7 @@ pub(crate) fn noted_are_free<N: World>(
     requires phase_design { design_of phase.now.design ≡ N.design }
     requires late_design { design_of late.old.design ≡ N.design }
     requires own { AreReached N.design notes.now.changed own.now }
+    requires unread { (other : ℕ) → has own.now.objects other ≡ true → has (net_pieces N.design) other ≡ true → IsUnreadNet (noted_phase N.design N.plan window.now notes.now end) other }
     requires phase { known ≡ true → PhaseIsReached (noted_phase N.design N.plan window.now notes.now end) phase.now }
     ensures design { late.new.design ≡ late.old.design }
     ensures free { result ≡ true → (object : ℕ) → has notes.now.noted object ≡ true → IsFreeHere (noted_phase N.design N.plan window.now notes.now end) object }
@@ -334,19 +359,43 @@ fn is_unread_if_net<N: World>(
     is_unread_net(setup, window, notes, awaited, object, end)
 }
 
-/// Whether the wildness of some noted object is to be asked for: it is a net piece that isn't unread.
+/// Whether an object is known to be unread, or no net piece: all net pieces that own writes reach are unread.
+fn is_known_unread<N: World>(
+    setup: &Setup<'_, N>,
+    window: &TraceWindow<N>,
+    notes: &RaceNotes,
+    awaited: &AwaitedObjects,
+    own: &Reached,
+    object: ObjectId,
+    end: u32,
+) -> bool
+    requires awaited { AreAwaitedFlags N.design awaited.now }
+    requires own_design { design_of own.now.design ≡ N.design }
+{
+    if object.0 as usize >= object_count(setup) {
+        return false;
+    }
+    if own.contains(object) {
+        return true;
+    }
+    is_unread_if_net(setup, window, notes, awaited, object, end)
+}
+
+/// Whether the wildness of some noted object is to be asked for: it is a net piece that isn't unread. All those that own writes reach are unread.
 pub(crate) fn some_is_read<N: World>(
     setup: &Setup<'_, N>,
     window: &TraceWindow<N>,
     notes: &RaceNotes,
     awaited: &AwaitedObjects,
+    own: &Reached,
     end: u32,
 ) -> bool
-    requires { AreAwaitedFlags N.design awaited.now }
+    requires awaited { AreAwaitedFlags N.design awaited.now }
+    requires own_design { design_of own.now.design ≡ N.design }
 {
     let noted = notes.noted();
     'objects: for place in 0..noted.len() {
-        if !is_unread_if_net(setup, window, notes, awaited, noted[place], end) {
+        if !is_known_unread(setup, window, notes, awaited, own, noted[place], end) {
             return true;
         }
     }

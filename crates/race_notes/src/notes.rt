@@ -40,6 +40,28 @@ impl Model for RaceNotes {
     ghost view = { λ n. record { first = n.first; objects = n.objects.entries; noted = map object_number n.noted.items; changed = map object_number n.changed.items; spans = n.spans.items } };
 }
 
+/// For so many objects, writes and blocks there is room with the first block that is noted.
+const FIRST_ROOM: usize = 12;
+
+/// Makes room in lists for the first block that is noted.
+fn make_room(
+    noted: &mut Vec<ObjectId>,
+    changed: &mut Vec<ObjectId>,
+    spans: &mut Vec<OwnSpan>,
+) -> Result<(), NoMemory>
+    ensures noted { noted.new.items ≡ noted.old.items }
+    ensures changed { changed.new.items ≡ changed.old.items }
+    ensures spans { spans.new.items ≡ spans.old.items }
+{
+    if spans.capacity() > 0 {
+        return Ok(());
+    }
+    noted.reserve(FIRST_ROOM)?;
+    changed.reserve(FIRST_ROOM)?;
+    spans.reserve(FIRST_ROOM)?;
+    Ok(())
+}
+
 impl RaceNotes {
     /// Notes in which nothing is noted.
     pub fn new(alloc: Global) -> RaceNotes
@@ -83,6 +105,7 @@ impl RaceNotes {
             (record { begins = span.begins; ends = span.ends; seen = map noted_seen told.now.accesses.items }) self.old self.new) }
     {
         let accesses = told.accesses.as_slice();
+        make_room(&mut self.noted, &mut self.changed, &mut self.spans)?;
         note_accesses(
             &mut self.objects,
             &mut self.noted,

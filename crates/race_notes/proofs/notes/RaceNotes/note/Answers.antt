@@ -1,11 +1,11 @@
 -- A block is noted part by part.
-use Rattle.std.proofs.Common.{◌++◌, map, refl, ap, subst, ◌∙◌}
+use Rattle.std.proofs.Common.{[], ◌∷◌, ◌++◌, map, refl, ap, subst, ◌∙◌}
 use Rattle.std.specs.Fn.{FnReturnsAt}
 use Rattle.std.proofs.lemmas.List.{map-append}
 use Rattle.vf_base.specs.Base.{object_number}
 use Rattle.block_told.specs.Tells.{noted_seen}
-use Rattle.race_notes.specs.Notes.{OwnBlock, note_at, NotesKept}
-use Rattle.race_notes.specs.Access.{IsToldLike, AreNoted, written_in}
+use Rattle.race_notes.specs.Notes.{OwnBlock, note_at, NotesKept, span_of}
+use Rattle.race_notes.specs.Access.{IsToldLike, AreNoted, KeepsListed, written_in}
 use Rattle.race_notes.specs.Told.{NotesBlock}
 use Rattle.race_notes.proofs.NotesOf.{notes_block}
 use Rattle.race_notes.proofs.notes.RaceNotes.note.Goals as goal
@@ -37,9 +37,9 @@ returns g c =
     (notes_block likes written block old new (record {
       first_is = refl;
       objects = subst (λ l. AreNoted likes c.args.span.begins l (note_at old.objects) (note_at new.objects)) same c.in_ok-note_accesses.ensures.objects;
-      listed = c.in_ok-note_accesses.ensures.noted;
+      listed = subst (λ l. KeepsListed (note_at old.objects) (note_at new.objects) l new.noted) (ap (map object_number) c.make_room.ensures.noted) c.in_ok-note_accesses.ensures.noted;
       changed =
           ap (map object_number) c.in_ok-extend_from_slice.ensures.items ∙ map-append object_number c.list_written.new.written.items c.args.written.now
-          ∙ ap (λ l. l ++ written) (c.in_ok-list_written.ensures ∙ ap (λ l. old.changed ++ written_in l) same);
-      spans = c.in_ok-push.ensures.items;
+          ∙ ap (λ l. l ++ written) (c.in_ok-list_written.ensures ∙ (λ i. map object_number (c.make_room.ensures.changed i) ++ written_in (same i)));
+      spans = c.in_ok-push.ensures.items ∙ ap (λ l. l ++ span_of block ∷ []) c.make_room.ensures.spans;
     }))
