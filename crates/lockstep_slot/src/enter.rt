@@ -13,6 +13,9 @@ use std::alloc::Global;
 use v_design::{Fault, World};
 use vf_base::{FaultId, MAX_SLOT_STEPS, NoMemory};
 
+/// For how many steps that a fault takes itself in a slot there is room at first.
+const FIRST_TRIED: usize = 16;
+
 /// What goes on of a fault in a slot of a window, from a copy of it that may begin the slot. The steps of the slot bound those of own blocks: `None` where the slot has more
 /// events.
 ///
@@ -46,7 +49,8 @@ pub fn enter_slot<N: World>(
     notes.clear(first);
     let kept = copy.copied(alloc)?;
     let own = begin_slot(alloc, kept);
-    let tried = Vec::new(alloc);
+    // A fault that enters a slot nearly always takes some steps itself.
+    let tried = Vec::with_capacity(alloc, FIRST_TRIED)?;
     let apart = Vec::new(alloc);
     let one = FaultInSlot {
         own,

@@ -32,16 +32,16 @@ returns-in_default-clause-rest g c = λ one is. (let no : ⊥ = cc in absurd no)
 pub returns-clause-begins : goal.returns-clause-begins
 returns-clause-begins g c = λ one is.
     let window = c.args.view.now.window.now in
-    let it : FaultInSlot = record { own = c.begin_slot-own.result; notes = c.clear.new.self; spare = c.in-Some.spare; tried = c.new-tried.result; apart = c.new-apart.result } in
+    let it : FaultInSlot = record { own = c.begin_slot-own.result; notes = c.clear.new.self; spare = c.in-Some.spare; tried = c.in_ok-tried.tried; apart = c.new-apart.result } in
     subst (BeginsSlot g.N.World.design g.N.World.plan (fault_of c.args.fault) window.before window.through c.args.slot) (some-one it one is)
     (enters c.slots_are_counted.ensures g.N.World.design g.N.World.plan (fault_of c.args.fault) window.before window.through c.args.slot c.first_moment-first.result c.first_moment-behind.result
     c.args.copy.now it c.requires.slot c.requires.copy c.first_moment-first.ensures.moment c.first_moment-behind.ensures.moment
     (subst (KeepsSame c.args.copy.now) (sym c.begin_slot-own.ensures.copy) c.in_ok-kept.ensures) c.begin_slot-own.ensures.lanes c.clear.ensures
-    (let some = c.in-Some.ensures.0 in let is = c.in-Some.ensures.1 in omega (arith, some, is)) c.new-tried.ensures.items c.new-apart.ensures.items)
+    (let some = c.in-Some.ensures.0 in let is = c.in-Some.ensures.1 in omega (arith, some, is)) c.in_ok-tried.ensures.items c.new-apart.ensures.items)
 
 pub returns-clause-rest : goal.returns-clause-rest
 returns-clause-rest g c = λ one is.
-    let it : FaultInSlot = record { own = c.begin_slot-own.result; notes = c.clear.new.self; spare = c.in-Some.spare; tried = c.new-tried.result; apart = c.new-apart.result } in
+    let it : FaultInSlot = record { own = c.begin_slot-own.result; notes = c.clear.new.self; spare = c.in-Some.spare; tried = c.in_ok-tried.tried; apart = c.new-apart.result } in
     let same = some-one it one is in
     let copy = c.begin_slot-own.ensures.copy in (
       ap (λ (o : FaultInSlot). o.own.copy.fault) (sym same) ∙ ap (λ (k : CopyKept). k.fault) copy ∙ c.in_ok-kept.ensures.fault,
