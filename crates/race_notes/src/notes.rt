@@ -49,9 +49,9 @@ fn make_room(
     changed: &mut Vec<ObjectId>,
     spans: &mut Vec<OwnSpan>,
 ) -> Result<(), NoMemory>
-    ensures noted { noted.new.items ≡ noted.old.items }
-    ensures changed { changed.new.items ≡ changed.old.items }
-    ensures spans { spans.new.items ≡ spans.old.items }
+    ensures noted { OnOk result (noted.new.items ≡ noted.old.items) }
+    ensures changed { OnOk result (changed.new.items ≡ changed.old.items) }
+    ensures spans { OnOk result (spans.new.items ≡ spans.old.items) }
 {
     if spans.capacity() > 0 {
         return Ok(());

@@ -37,9 +37,9 @@ returns g c =
     (notes_block likes written block old new (record {
       first_is = refl;
       objects = subst (λ l. AreNoted likes c.args.span.begins l (note_at old.objects) (note_at new.objects)) same c.in_ok-note_accesses.ensures.objects;
-      listed = subst (λ l. KeepsListed (note_at old.objects) (note_at new.objects) l new.noted) (ap (map object_number) c.make_room.ensures.noted) c.in_ok-note_accesses.ensures.noted;
+      listed = subst (λ l. KeepsListed (note_at old.objects) (note_at new.objects) l new.noted) (ap (map object_number) c.in_ok-make_room.ensures.noted) c.in_ok-note_accesses.ensures.noted;
       changed =
           ap (map object_number) c.in_ok-extend_from_slice.ensures.items ∙ map-append object_number c.list_written.new.written.items c.args.written.now
-          ∙ ap (λ l. l ++ written) (c.in_ok-list_written.ensures ∙ (λ i. map object_number (c.make_room.ensures.changed i) ++ written_in (same i)));
-      spans = c.in_ok-push.ensures.items ∙ ap (λ l. l ++ span_of block ∷ []) c.make_room.ensures.spans;
+          ∙ ap (λ l. l ++ written) (c.in_ok-list_written.ensures ∙ (λ i. map object_number (c.in_ok-make_room.ensures.changed i) ++ written_in (same i)));
+      spans = c.in_ok-push.ensures.items ∙ ap (λ l. l ++ span_of block ∷ []) c.in_ok-make_room.ensures.spans;
     }))
