@@ -6,6 +6,10 @@ use Rattle.phase_reach.specs.lockstep_notes.Notes.{some_reaches}
 use Rattle.lockstep_filter.proofs.Free.{FilterLaws, leaves-none}
 use Rattle.lockstep_filter.proofs.filter.is_free.Goals as goal
 
+-- what own writes reach is unread
+pub noted_are_free-requires-clause-unread : goal.noted_are_free-requires-clause-unread
+noted_are_free-requires-clause-unread g c κs within = (let unread : c.reached_are_unread.result ≡ true = search rules in c.reached_are_unread.ensures unread)
+
 pub returns : goal.returns
 returns g c =
     let laws : FilterLaws =
