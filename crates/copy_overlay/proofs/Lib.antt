@@ -1,3 +1,0 @@
-mod MarkLaws
-mod CaughtUp
-mod Stretches

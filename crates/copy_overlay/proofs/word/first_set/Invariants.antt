@@ -1,6 +1,0 @@
-use Rattle.std.proofs.Common.{◌≡◌, ◌*◌, ◌<◌, ◌≤◌, ℕ, false}
-use Rattle.copy_overlay.specs.Marked.{is_set}
-use Rattle.copy_overlay.proofs.word.first_set.Given as goal
-
-abbrev pub invariant-words : goal.invariant-words
-invariant-words l = (m : ℕ) → l.from ≤ m → m < l.place * 64 → is_set l.words m ≡ false
