@@ -1,6 +1,7 @@
 -- Faults at a slot, one by one (strobes by the plan; slots by IEEE 1364-2001, clause 5).
-use Rattle.std.proofs.Common.{◌≡◌, ◌⊎◌, ℕ, zero, suc, ◌+◌, ◌<◌, Bool, true, false, List, [], ◌∷◌, length, refl, sym, ap, subst, ◌∙◌, arith, inl, inr}
-use Rattle.std.specs.Prelude.{Some, ◌||◌, slice_get, sum_by}
+use Rattle.std.proofs.Common.{◌≡◌, ◌⊎◌, ℕ, zero, suc, ◌+◌, ◌<◌, Bool, true, false, List, [], ◌∷◌, length, map, refl, sym, ap, subst, ◌∙◌, arith, inl, inr}
+use Rattle.std.specs.Prelude.{Option, None, Some, ◌||◌, replicate, slice_get, sum_by}
+use Rattle.std.proofs.lemmas.List.{length-map}
 use Rattle.std.specs.List.{AllZip, list_any}
 use Rattle.std.proofs.lemmas.Option.{slice_get_within}
 use Rattle.vf_base.specs.Lists.{AllHold}
@@ -17,8 +18,9 @@ use Rattle.copy_lockstep.specs.phase_faults.Beside.{HasSite, ticked_of}
 use Rattle.copy_lockstep.specs.phase_faults.declared.beside.FaultBeside.{FaultBeside}
 use Rattle.copy_lockstep.specs.lockstep_slot.Beside.{BeginsSlotIf, ComesThroughSlot}
 use Rattle.copy_lockstep.specs.window_faults.declared.at.FaultAt.{FaultAt}
-use Rattle.copy_lockstep.proofs.window_faults.Lists.{all-at, sum-none, zip-back, zip-length}
-use Rattle.shard_slots.specs.Slots.{Enters, EntersAt, HaveEntered, HaveGone, TookOwn, WentThrough, goes_beside}
+use Rattle.copy_lockstep.proofs.window_faults.Lists.{sum-none}
+use Rattle.shard_slots.specs.Slots.{AllEntered, Enters, EntersAt, EntersIf, HaveEntered, HaveGone, TookOwn, WentIf, WentThrough, goes_beside}
+use Rattle.shard_slots.proofs.Somes.{BothIf, all-somes, all-there, all-told, some-at, spread}
 
 -- a place of a list has an element
 at-there : {A : Type 0} (xs : List A) (i : ℕ) → i < length xs → (x : A) × (slice_get xs i ≡ Some x)
@@ -50,14 +52,15 @@ module _ (design : FlatDesign) (plan : TestPlan) (number : ℕ) where
 
 module _ (design : FlatDesign) (plan : TestPlan) (before through slot : ℕ) where
   -- what is known of each fault before the slot
-  module _ (owns : List ShardFault) (ats : List FaultAt) (besides : List FaultBeside) (are : HaveEntered design plan before through slot owns ats besides) where
+  module _ (owns : List ShardFault) (ats : List FaultAt) (entered : List Bool) (besides : List FaultBeside) (all : HaveEntered design plan before through slot owns ats entered besides) where
     of-each : (P : FaultBeside → Type 0) → ((own : ShardFault) (at : FaultAt) (beside : FaultBeside) → Enters design plan before through slot own at beside → P beside) → AllHold P besides
     of-each P law =
-        all-at P besides (λ i beside here.
-        let low = slice_get_within besides i beside here in
-        let own = at-there owns i (omega (arith, low, are.beside)) in
-        let at = at-there ats i (omega (arith, low, are.beside, are.count)) in
-        law own.0 at.0 beside (are.each i own.0 at.0 beside own.1 at.1 here))
+        subst (AllHold P) (sym all.besides_are)
+        (all-somes P all.founds (λ i beside here.
+        let low = slice_get_within all.founds i (Some beside) here in
+        let own = at-there owns i (omega (arith, low, all.are.beside)) in
+        let at = at-there ats i (omega (arith, low, all.are.beside, all.are.count)) in
+        law own.0 at.0 beside (all.are.each i own.0 at.0 (Some beside) own.1 at.1 here)))
 
     -- their sites are the design's
     pub sites : SearchesBegin → IsPlanOf design plan → AllHold (HasSite design) besides
@@ -103,12 +106,44 @@ module _ (design : FlatDesign) (plan : TestPlan) (before through slot : ℕ) whe
           (comes.through goes first stands);
     }
 
-  pub have-gone : (owns : List ShardFault) (ats : List FaultAt) (olds news : List FaultBeside) → HaveEntered design plan before through slot owns ats olds →
-      AllZip (ComesThroughSlot design plan (before + slot)) olds news → HaveGone design plan before through slot owns ats news
-  have-gone owns ats olds news are zip = record {
-    count = are.count;
-    beside = zip-length (ComesThroughSlot design plan (before + slot)) olds news zip ∙ are.beside;
-    each = λ place own at beside here there one.
-        let back = zip-back (ComesThroughSlot design plan (before + slot)) olds news place beside zip one in
-        went own at back.0 beside (are.each place own at back.0 here there back.1) back.2;
+  -- one that may have entered it
+  went-if : (own : ShardFault) (at : FaultAt) (old new : Option FaultBeside) → EntersIf design plan before through slot own at old → BothIf (ComesThroughSlot design plan (before + slot)) old new →
+      WentIf design plan before through slot own at new
+  went-if own at None None rests both = rests
+  went-if own at None (Some new) rests both = absurd both
+  went-if own at (Some old) None enters both = absurd both
+  went-if own at (Some old) (Some new) enters both = went own at old new enters both
+
+  pub have-gone : (owns : List ShardFault) (ats : List FaultAt) (entered : List Bool) (olds news : List FaultBeside) → HaveEntered design plan before through slot owns ats entered olds →
+      AllZip (ComesThroughSlot design plan (before + slot)) olds news → HaveGone design plan before through slot owns ats entered news
+  have-gone owns ats entered olds news all zip =
+      let R = ComesThroughSlot design plan (before + slot) in
+      let came = spread R all.founds news (subst (λ (l : List FaultBeside). AllZip R l news) all.besides_are zip) in
+      record {
+        founds = came.founds;
+        are = record {
+          count = all.are.count;
+          beside = came.count ∙ all.are.beside;
+          each = λ place own at found here there one.
+              let back = came.back place found one in
+              went-if own at back.0 found (all.are.each place own at back.0 here there back.1) back.2;
+        };
+        entered_are = all.entered_are ∙ sym came.same;
+        besides_are = sym came.items;
+      }
+
+  -- all enter the first slot
+  pub enter-all : (owns : List ShardFault) (ats : List FaultAt) (entered : List Bool) (besides : List FaultBeside) → AllEntered design plan before through slot owns ats besides →
+      entered ≡ replicate (length owns) true → HaveEntered design plan before through slot owns ats entered besides
+  enter-all owns ats entered besides all told = record {
+    founds = map (λ (beside : FaultBeside). Some beside) besides;
+    are = record {
+      count = all.count;
+      beside = length-map besides (λ (beside : FaultBeside). Some beside) ∙ all.beside;
+      each = λ place own at found here there one.
+          let back = some-at besides place found one in
+          subst (EntersIf design plan before through slot own at) back.2 (all.each place own at back.0 here there back.1);
+    };
+    entered_are = told ∙ ap (λ (n : ℕ). replicate n true) (sym all.beside) ∙ all-told besides;
+    besides_are = sym (all-there besides);
   }

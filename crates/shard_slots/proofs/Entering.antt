@@ -20,46 +20,39 @@ use Rattle.copy_lockstep.proofs.Stops.{fewer}
 use Rattle.copy_lockstep.specs.window_faults.Within.{IsWithin}
 use Rattle.copy_lockstep.specs.window_faults.declared.at.FaultAt.{FaultAt}
 use Rattle.copy_lockstep.proofs.window_faults.Within.{ended-later, within-there}
-use Rattle.shard_slots.specs.Slots.{Enters}
+use Rattle.shard_slots.specs.Slots.{Enters, Rests}
 
 module _ (design : FlatDesign) (plan : TestPlan) (before through slot : ℕ) where
-  -- it rests
-  pub rests-there : (own : ShardFault) (at : FaultAt) (beside : FaultBeside) → IsWithin design plan before through own at → (own.end ≡ None → slot ≤ at.slot) →
-      slice_get plan.faults own.copy.fault ≡ Some (fault_of beside.fault) → beside.goes ≡ false → beside.one.tried.items ≡ [] → Enters design plan before through slot own at beside
-  rests-there own at beside within come listed rests tried = record {
-    within = within;
-    come = come;
-    listed = listed;
-    tried = tried;
-    goes = λ goes. absurd (let no : beside.goes ≡ false = rests in cc);
-    begins = λ goes. absurd (let no : beside.goes ≡ false = rests in cc);
-  }
-
   -- it is passed over slots
-  pub passed-there : (fault : StuckAt) (last : ℕ) (reached : Reached) (own : ShardFault) (at : FaultAt) (beside : FaultBeside) → before + last ≤ through →
-      IsPassed design plan fault before slot last reached own → at.slot ≡ reached.slot → at.passed ≡ reached.passed →
-      slice_get plan.faults own.copy.fault ≡ Some (fault_of beside.fault) → beside.goes ≡ false → beside.one.tried.items ≡ [] → Enters design plan before through slot own at beside
-  passed-there fault last reached own at beside low passed slot_is passed_is listed rests tried =
+  pub passed-there : (fault : StuckAt) (last : ℕ) (reached : Reached) (own : ShardFault) (at : FaultAt) → 0 < before → before + last ≤ through → IsPassed design plan fault before slot last reached own →
+      at.slot ≡ reached.slot → at.passed ≡ reached.passed → Rests design plan before through slot own at
+  passed-there fault last reached own at some low passed slot_is passed_is =
       let since = passed.since in
       let by = passed.by in
       let stood = passed.stands in
-      rests-there own at beside
-      (within-there design plan before through reached.slot reached.passed own at slot_is passed_is (omega (arith, low, by))
-      (subst (λ n. IsShardFault design plan n reached.passed own) (sym stood.gone_is) stood.behind.stands)
-      (λ none. subst (λ n. HasPassed design plan n reached.passed) (sym stood.gone_is) stood.behind.has_passed))
-      (λ none. omega (arith, since, slot_is)) listed rests tried
+      record {
+        later = some;
+        within =
+            within-there design plan before through reached.slot reached.passed own at slot_is passed_is (omega (arith, low, by))
+            (subst (λ n. IsShardFault design plan n reached.passed own) (sym stood.gone_is) stood.behind.stands)
+            (λ none. subst (λ n. HasPassed design plan n reached.passed) (sym stood.gone_is) stood.behind.has_passed);
+        come = λ none. omega (arith, since, slot_is);
+      }
 
   -- its grading ended
-  pub ended-there : FaultsGoOn → KeepsRules design → (own : ShardFault) (at : FaultAt) (beside : FaultBeside) → before + slot < through → HasEnded design plan (suc (before + slot)) own →
-      at.slot ≡ slot + 1 → slice_get plan.faults own.copy.fault ≡ Some (fault_of beside.fault) → beside.goes ≡ false → beside.one.tried.items ≡ [] → Enters design plan before through slot own at beside
-  ended-there law rules own at beside low ended slot_is listed rests tried =
+  pub ended-there : FaultsGoOn → KeepsRules design → (own : ShardFault) (at : FaultAt) → 0 < before → before + slot < through → HasEnded design plan (suc (before + slot)) own → at.slot ≡ slot + 1 →
+      Rests design plan before through slot own at
+  ended-there law rules own at before_some low ended slot_is =
       let next : suc (before + slot) ≡ before + (slot + 1) = omega arith in
       let some : is_some own.end ≡ true = ended.ended in
-      rests-there own at beside
-      (within-there design plan before through (slot + 1) at.passed own at slot_is refl (omega (arith, low))
-      (subst (λ n. IsShardFault design plan n at.passed own) next (ended-later law design plan rules (suc (before + slot)) (suc (before + slot)) ended.passed at.passed own (omega arith) some ended.stands))
-      (λ none. absurd (let no : is_some own.end ≡ false = ap is_some none in cc)))
-      (λ none. omega (arith, slot_is)) listed rests tried
+      record {
+        later = before_some;
+        within =
+            within-there design plan before through (slot + 1) at.passed own at slot_is refl (omega (arith, low))
+            (subst (λ n. IsShardFault design plan n at.passed own) next (ended-later law design plan rules (suc (before + slot)) (suc (before + slot)) ended.passed at.passed own (omega arith) some ended.stands))
+            (λ none. absurd (let no : is_some own.end ≡ false = ap is_some none in cc));
+        come = λ none. omega (arith, slot_is);
+      }
 
   -- it enters the slot
   pub enters-there : (window : WindowKept) (last : ℕ) (entering : Entering) (old own : ShardFault) (at : FaultAt) (beside : FaultBeside) → window.before ≡ before → window.through ≡ through →

@@ -1,6 +1,6 @@
 -- A fault behind a slot, and the own steps that it takes there (steps by IEEE 1364-2001, clause 9; slots by clause 5).
-use Rattle.std.proofs.Common.{◌≡◌, ℕ, suc, ◌+◌, ◌≤◌, List, [], ◌∷◌, length, sym, ap, subst, arith, inl, inr}
-use Rattle.std.specs.Prelude.{None}
+use Rattle.std.proofs.Common.{◌≡◌, ℕ, suc, ◌+◌, ◌≤◌, true, false, List, [], ◌∷◌, length, sym, ap, subst, arith, inl, inr}
+use Rattle.std.specs.Prelude.{Option, None, Some, is_some}
 use Rattle.v_design.specs.Designs.{FlatDesign, StuckAt, TestPlan}
 use Rattle.v_design.specs.Plain.{fault_of}
 use Rattle.v_design.specs.WellFormed.{KeepsRules}
@@ -20,7 +20,8 @@ use Rattle.copy_lockstep.specs.phase_faults.declared.beside.FaultBeside.{FaultBe
 use Rattle.copy_lockstep.specs.Steps.{SlotsTakeOwn}
 use Rattle.copy_lockstep.specs.window_faults.Steps.{steps_of_fault}
 use Rattle.copy_lockstep.specs.window_faults.declared.at.FaultAt.{FaultAt}
-use Rattle.shard_slots.specs.Slots.{TookOwn, WentThrough}
+use Rattle.copy_lockstep.specs.window_faults.Within.{IsWithin}
+use Rattle.shard_slots.specs.Slots.{TookOwn, WentIf, WentThrough, tried_if}
 use Rattle.shard_slots.proofs.Numbers.{counter-rises, steps-rise}
 
 -- the slot behind none is the first one
@@ -92,6 +93,24 @@ may-try took design plan before through slot own at beside went = elim went.trie
         (took.first_again design plan (fault_of beside.fault) (kept_by own) some.1.copy beside.one.tried.items begun.0 begun.1))
   ]
 ]
+
+-- One that may have entered the slot
+
+pub within-if : (design : FlatDesign) (plan : TestPlan) (before through slot : ℕ) (own : ShardFault) (at : FaultAt) (found : Option FaultBeside) → WentIf design plan before through slot own at found →
+    IsWithin design plan before through own at
+within-if design plan before through slot own at None rests = rests.within
+within-if design plan before through slot own at (Some beside) went = went.within
+
+-- its grading had ended
+pub rests-if : (law : OwnStepsRise) (design : FlatDesign) (plan : TestPlan) (rules : KeepsRules design) (before through slot : ℕ) (own : ShardFault) (at : FaultAt) (found : Option FaultBeside) →
+    WentIf design plan before through slot own at found → (tally : OwnStepsOf design plan) (counter : ℕ) → is_some own.end ≡ true →
+    RisesWithin (steps_of_fault tally (before + slot) own) (steps_of_fault tally (before + (slot + 1)) own) counter (counter + tried_if found)
+rests-if law design plan rules before through slot own at None rests tally counter some =
+    let later = steps-rise law design plan rules tally (before + slot) (before + (slot + 1)) (omega arith) (before + at.slot) at.passed own rests.within.stands in
+    omega (arith, later)
+rests-if law design plan rules before through slot own at (Some beside) went tally counter some =
+    rests-within law design plan rules before through slot own at beside went tally counter
+    (none-tried law design plan rules before through slot own at beside went (λ here none. (let no : is_some own.end ≡ false = ap is_some none in cc)))
 
 -- All faults
 

@@ -1,3 +1,4 @@
+pub mod Somes
 pub mod Ended
 pub mod Entering
 pub mod Numbers

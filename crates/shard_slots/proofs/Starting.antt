@@ -1,5 +1,5 @@
 -- Faults before the first slot (strobes by the plan; slots by IEEE 1364-2001, clause 5).
-use Rattle.std.proofs.Common.{◌≡◌, ℕ, zero, suc, ◌+◌, ◌<◌, List, [], ◌∷◌, length, refl, sym, ap, subst, ◌∙◌, inl, inr, arith}
+use Rattle.std.proofs.Common.{◌≡◌, ℕ, zero, suc, ◌+◌, ◌<◌, Bool, true, List, [], ◌∷◌, length, refl, sym, ap, subst, ◌∙◌, inl, inr, arith}
 use Rattle.std.specs.Prelude.{Option, Some, None, option_map, replicate, slice_get}
 use Rattle.std.proofs.lemmas.List.{length-replicate}
 use Rattle.std.proofs.lemmas.Option.{same_Some}
@@ -38,7 +38,8 @@ use Rattle.copy_lockstep.specs.window_strobes.Passed.{HasPassed}
 use Rattle.copy_lockstep.specs.window_faults.Within.{IsWithin}
 use Rattle.copy_lockstep.specs.window_faults.declared.at.FaultAt.{FaultAt}
 use Rattle.copy_lockstep.proofs.lockstep_shards.Laws.{fine-there, last, last-there}
-use Rattle.shard_slots.specs.Slots.{Enters, EntersFirst, HaveEntered, HaveEnteredFirst}
+use Rattle.shard_slots.specs.Slots.{AllEntered, Enters, EntersFirst, HaveEntered, HaveEnteredFirst}
+use Rattle.shard_slots.proofs.Beside.{enter-all}
 
 -- Where a copy may begin the first slot
 
@@ -127,7 +128,7 @@ module _ (design : FlatDesign) (plan : TestPlan) (through passed : ℕ) (has : H
   have-entered : 1 < length (good_slots design plan) → (faults : List ShardFault) (ats : List FaultAt) (besides : List FaultBeside) →
       ((place : ℕ) (own : ShardFault) → slice_get faults place ≡ Some own → IsShardFault design plan 0 passed own) → length ats ≡ length faults →
       ((place : ℕ) (at : FaultAt) → slice_get ats place ≡ Some at → (at.slot ≡ 0) × (at.passed ≡ 0)) → HaveEnteredFirst design plan through faults besides →
-      HaveEntered design plan 0 through 0 faults ats besides
+      AllEntered design plan 0 through 0 faults ats besides
   have-entered more faults ats besides all count start entered = record {
     count = count;
     beside = entered.beside;
@@ -145,24 +146,26 @@ all-alike (suc count) zero first at here = sym (some-at first at here)
 all-alike (suc count) (suc place) first at here = all-alike count place first at here
 
 -- in a window that begins with the first slot, where they are seen as a slice
-pub all-entered : (design : FlatDesign) (plan : TestPlan) (run window : WindowKept) (passed count : ℕ) (faults lent : List ShardFault) (ats : List FaultAt) (besides : List FaultBeside) →
+pub all-entered : (design : FlatDesign) (plan : TestPlan) (run window : WindowKept) (passed count : ℕ) (faults lent : List ShardFault) (ats : List FaultAt) (entered : List Bool) (besides : List FaultBeside) →
     window ≡ run → run.before ≡ 0 → run.through ≡ 1 → 1 < length (good_slots design plan) → HasPassed design plan run.before passed → AllHold (IsShardFault design plan run.before passed) faults →
-    lent ≡ faults → count ≡ length faults → ats ≡ replicate count (record { slot = 0; passed = 0; seen = 0; possible = None }) → HaveEnteredFirst design plan window.through lent besides →
-    HaveEntered design plan window.before window.through 0 faults ats besides
-all-entered design plan run window passed count faults lent ats besides is none one more has stands same many ats_are entered =
+    lent ≡ faults → count ≡ length faults → ats ≡ replicate count (record { slot = 0; passed = 0; seen = 0; possible = None }) → entered ≡ replicate count true → HaveEnteredFirst design plan window.through lent besides →
+    HaveEntered design plan window.before window.through 0 faults ats entered besides
+all-entered design plan run window passed count faults lent ats entered besides is none one more has stands same many ats_are told firsts =
     let first : FaultAt = record { slot = 0; passed = 0; seen = 0; possible = None } in
     let begins : window.before ≡ 0 = ap (λ (w : WindowKept). w.before) is ∙ none in
     let through : window.through ≡ 1 = ap (λ (w : WindowKept). w.through) is ∙ one in
     let low : 0 < window.through = omega (arith, through) in
     let counted : ats ≡ replicate (length faults) first = ats_are ∙ ap (λ (n : ℕ). replicate n first) many in
-    subst (λ (n : ℕ). HaveEntered design plan n window.through 0 faults ats besides) (sym begins)
+    enter-all design plan window.before window.through 0 faults ats entered besides
+    (subst (λ (n : ℕ). AllEntered design plan n window.through 0 faults ats besides) (sym begins)
     (have-entered design plan window.through passed (subst (λ (n : ℕ). HasPassed design plan n passed) none has) low more faults ats besides
     (λ place own here. subst (λ (n : ℕ). IsShardFault design plan n passed own) none (all-get (IsShardFault design plan run.before passed) faults place own stands here))
     (ap length counted ∙ length-replicate (length faults) first)
     (λ place at here.
     let alike : at ≡ first = all-alike (length faults) place first at (subst (λ (l : List FaultAt). slice_get l place ≡ Some at) counted here) in
     (ap (λ (a : FaultAt). a.slot) alike, ap (λ (a : FaultAt). a.passed) alike))
-    (subst (λ (l : List ShardFault). HaveEnteredFirst design plan window.through l besides) same entered))
+    (subst (λ (l : List ShardFault). HaveEnteredFirst design plan window.through l besides) same firsts)))
+    (told ∙ ap (λ (n : ℕ). replicate n true) many)
 
 -- The start
 

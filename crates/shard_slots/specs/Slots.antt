@@ -1,5 +1,5 @@
 -- The faults of a shard at a slot of a window (strobes by the plan; slots by IEEE 1364-2001, clause 5).
-use Rattle.std.specs.Prelude.{◌≡◌, ◌⊎◌, ℕ, ◌+◌, ◌<◌, ◌≤◌, Bool, true, List, [], length, None, Some, slice_get}
+use Rattle.std.specs.Prelude.{◌≡◌, ◌⊎◌, ℕ, ◌+◌, ◌<◌, ◌≤◌, Bool, true, List, [], ◌∷◌, length, map, Option, None, Some, is_some, slice_get}
 use Rattle.v_design.specs.Designs.{FlatDesign, StuckAt, TestPlan}
 use Rattle.v_design.specs.Plain.{fault_of}
 use Rattle.v_design.specs.Runs.{FirstSlot}
@@ -62,18 +62,54 @@ pub record WentThrough (design : FlatDesign) (plan : TestPlan) (before through s
   pub through_it : beside.goes ≡ true → (first : FirstSlot) → slice_get (good_slots design plan) (before + slot) ≡ Some first →
       IsCopyInLockstep design plan (fault_of beside.fault) (before + slot) first.begins.time (lockstep_differences beside.one.own.copy)
 
+-- a fault rests before a slot of a window that isn't the first one: it doesn't go through it in lockstep
+pub record Rests (design : FlatDesign) (plan : TestPlan) (before through slot : ℕ) (own : ShardFault) (at : FaultAt) : Type 0 where
+  pub later : 0 < before
+  pub within : IsWithin design plan before through own at
+  pub come : own.end ≡ None → slot ≤ at.slot
+
+-- a fault before a slot with what goes on of it there, if it enters it, and behind the slot
+abbrev pub EntersIf : FlatDesign → TestPlan → ℕ → ℕ → ℕ → ShardFault → FaultAt → Option FaultBeside → Type 0
+EntersIf design plan before through slot own at None = Rests design plan before through slot own at
+EntersIf design plan before through slot own at (Some beside) = Enters design plan before through slot own at beside
+
+abbrev pub WentIf : FlatDesign → TestPlan → ℕ → ℕ → ℕ → ShardFault → FaultAt → Option FaultBeside → Type 0
+WentIf design plan before through slot own at None = Rests design plan before through slot own at
+WentIf design plan before through slot own at (Some beside) = WentThrough design plan before through slot own at beside
+
+-- how many own steps were tried of a fault that may have entered a slot
+abbrev pub tried_if : Option FaultBeside → ℕ
+tried_if None = 0
+tried_if (Some beside) = length beside.one.tried.items
+
 -- so it is of all faults with what goes on of them in a slot, one by one
-pub record AreBeside (R : ShardFault → FaultAt → FaultBeside → Type 0) (faults : List ShardFault) (ats : List FaultAt) (besides : List FaultBeside) : Type 0 where
+pub record AreBeside {C : Type 0} (R : ShardFault → FaultAt → C → Type 0) (faults : List ShardFault) (ats : List FaultAt) (besides : List C) : Type 0 where
   pub count : length ats ≡ length faults
   pub beside : length besides ≡ length faults
-  pub each : (place : ℕ) (own : ShardFault) (at : FaultAt) (beside : FaultBeside) → slice_get faults place ≡ Some own → slice_get ats place ≡ Some at →
+  pub each : (place : ℕ) (own : ShardFault) (at : FaultAt) (beside : C) → slice_get faults place ≡ Some own → slice_get ats place ≡ Some at →
       slice_get besides place ≡ Some beside → R own at beside
 
-abbrev pub HaveEntered : FlatDesign → TestPlan → ℕ → ℕ → ℕ → List ShardFault → List FaultAt → List FaultBeside → Type 0
-HaveEntered design plan before through slot = AreBeside (Enters design plan before through slot)
+-- those of some that are there
+abbrev pub somes : {C : Type 0} → List (Option C) → List C
+somes [] = []
+somes (None ∷ founds) = somes founds
+somes (Some one ∷ founds) = one ∷ somes founds
 
-abbrev pub HaveGone : FlatDesign → TestPlan → ℕ → ℕ → ℕ → List ShardFault → List FaultAt → List FaultBeside → Type 0
-HaveGone design plan before through slot = AreBeside (WentThrough design plan before through slot)
+-- of each fault it is told whether it entered a slot, and those that did have what goes on of them in one list
+pub record AreEntrants (R : ShardFault → FaultAt → Option FaultBeside → Type 0) (faults : List ShardFault) (ats : List FaultAt) (entered : List Bool) (besides : List FaultBeside) : Type 0 where
+  pub founds : List (Option FaultBeside)
+  pub are : AreBeside R faults ats founds
+  pub entered_are : entered ≡ map is_some founds
+  pub besides_are : besides ≡ somes founds
+
+abbrev pub AllEntered : FlatDesign → TestPlan → ℕ → ℕ → ℕ → List ShardFault → List FaultAt → List FaultBeside → Type 0
+AllEntered design plan before through slot = AreBeside (Enters design plan before through slot)
+
+abbrev pub HaveEntered : FlatDesign → TestPlan → ℕ → ℕ → ℕ → List ShardFault → List FaultAt → List Bool → List FaultBeside → Type 0
+HaveEntered design plan before through slot = AreEntrants (EntersIf design plan before through slot)
+
+abbrev pub HaveGone : FlatDesign → TestPlan → ℕ → ℕ → ℕ → List ShardFault → List FaultAt → List Bool → List FaultBeside → Type 0
+HaveGone design plan before through slot = AreEntrants (WentIf design plan before through slot)
 
 -- a fault before the first slot enters it: what goes on of it there, if it goes, may go through the slot
 pub record EntersFirst (design : FlatDesign) (plan : TestPlan) (through : ℕ) (own : ShardFault) (beside : FaultBeside) : Type 0 where

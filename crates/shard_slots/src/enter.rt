@@ -7,12 +7,13 @@ ghost use Rattle.copy_lockstep.specs.Stops.{NoStopThrough};
 ghost use Rattle.copy_lockstep.specs.copy_window.ShardFaults.{SameFault};
 ghost use Rattle.copy_lockstep.specs.window_faults.Steps.{StaysFault};
 ghost use Rattle.copy_lockstep.specs.window_faults.Within.{AreWithin, IsWithin};
-ghost use Rattle.shard_slots.specs.Slots.{Enters, HaveEntered};
+ghost use Rattle.shard_slots.specs.Slots.{EntersIf, HaveEntered};
 
+use crate::entrants::{Entrants, push_found};
 use crate::let_go::let_go_ended;
 use copy_lockstep::{
     Entered, Entering, FaultAt, FaultBeside, LockstepWindow, Reached, ShardFault, enter,
-    listed_fault, rests,
+    listed_fault,
 };
 use good_trace::Setup;
 use std::alloc::Global;
@@ -28,7 +29,7 @@ fn enter_open<N: World>(
     own: &mut ShardFault,
     at: &mut FaultAt,
     last: u32,
-) -> Result<FaultBeside, NoMemory>
+) -> Result<Option<FaultBeside>, NoMemory>
     requires some { 0 < view.now.window.now.before }
     requires slot { view.now.window.now.before + at.old.slot < view.now.window.now.through }
     requires last { view.now.window.now.before + last ≤ view.now.window.now.through }
@@ -36,7 +37,7 @@ fn enter_open<N: World>(
     requires listed { slice_get N.plan.faults own.old.copy.fault ≡ Some (fault_of fault) }
     requires none { own.old.end ≡ None }
     requires within { IsWithin N.design N.plan view.now.window.now.before view.now.window.now.through own.old at.old }
-    ensures enters { IfOk result (Enters N.design N.plan view.now.window.now.before view.now.window.now.through at.old.slot own.new at.new) }
+    ensures enters { IfOk result (EntersIf N.design N.plan view.now.window.now.before view.now.window.now.through at.old.slot own.new at.new) }
     ensures place { OnOk result (SameFault own.old own.new) }
     ensures further { OnOk result (at.old.slot ≤ at.new.slot) }
 {
@@ -44,7 +45,6 @@ fn enter_open<N: World>(
     let design = setup.design();
     // The window has more slots than that, and their number fits.
     let _all = view.window.slots();
-    let number = own.copy.fault();
     let reached = Reached {
         slot: at.slot,
         passed: at.passed,
@@ -54,14 +54,14 @@ fn enter_open<N: World>(
         Entered::Passed(further) => {
             at.slot = further.slot;
             at.passed = further.passed;
-            Ok(rests(alloc, fault, number))
+            Ok(None)
         }
         Entered::Ended => {
             let_go_ended(alloc, own);
             at.slot += 1;
-            Ok(rests(alloc, fault, number))
+            Ok(None)
         }
-        Entered::Whole => Ok(rests(alloc, fault, number)),
+        Entered::Whole => Ok(None),
         Entered::On(entering) => {
             let Entering {
                 one,
@@ -70,12 +70,12 @@ fn enter_open<N: World>(
             } = entering;
             at.seen = passed;
             at.possible = possible;
-            Ok(FaultBeside {
+            Ok(Some(FaultBeside {
                 fault,
                 one,
                 until: 0,
                 goes: true,
-            })
+            }))
         }
     }
 }
@@ -89,26 +89,26 @@ fn enter_one<N: World>(
     at: &mut FaultAt,
     slot: u32,
     last: u32,
-) -> Result<FaultBeside, NoMemory>
+) -> Result<Option<FaultBeside>, NoMemory>
     requires some { 0 < view.now.window.now.before }
     requires slot { view.now.window.now.before + slot < view.now.window.now.through }
     requires last { view.now.window.now.before + last ≤ view.now.window.now.through }
     requires fine { NoStopThrough N.design N.plan (view.now.window.now.before + last) }
     requires within { IsWithin N.design N.plan view.now.window.now.before view.now.window.now.through own.old at.old }
     requires come { own.old.end ≡ None → slot ≤ at.old.slot }
-    ensures enters { IfOk result (Enters N.design N.plan view.now.window.now.before view.now.window.now.through slot own.new at.new) }
+    ensures enters { IfOk result (EntersIf N.design N.plan view.now.window.now.before view.now.window.now.through slot own.new at.new) }
     ensures stays { OnOk result (StaysFault own.old own.new) }
 {
     let design = setup.design();
     let fault = listed_fault(setup, &own.copy);
     if own.end.is_some() {
-        return Ok(rests(alloc, fault, own.copy.fault()));
+        return Ok(None);
     }
     if slot < at.slot {
-        return Ok(rests(alloc, fault, own.copy.fault()));
+        return Ok(None);
     }
-    let beside = enter_open(alloc, setup, view, fault, own, at, last)?;
-    Ok(beside)
+    let found = enter_open(alloc, setup, view, fault, own, at, last)?;
+    Ok(found)
 }
 
 /// The faults of a shard before a slot.
@@ -124,21 +124,23 @@ pub(crate) fn enter_each<N: World>(
     ats: &mut Vec<FaultAt>,
     slot: u32,
     last: u32,
-) -> Result<Vec<FaultBeside>, NoMemory>
+) -> Result<Entrants, NoMemory>
     requires some { 0 < view.now.window.now.before }
     requires slot { view.now.window.now.before + slot < view.now.window.now.through }
     requires last { view.now.window.now.before + last ≤ view.now.window.now.through }
     requires fine { NoStopThrough N.design N.plan (view.now.window.now.before + last) }
     requires within { AreWithin N.design N.plan view.now.window.now.before view.now.window.now.through slot faults.old.items ats.old.items }
-    ensures entered { IfOk result (λ besides. HaveEntered N.design N.plan view.now.window.now.before view.now.window.now.through slot faults.new.items ats.new.items besides.items) }
+    ensures entered { IfOk result (λ entrants. HaveEntered N.design N.plan view.now.window.now.before view.now.window.now.through slot faults.new.items ats.new.items
+        entrants.entered.items entrants.besides.items) }
     ensures faults { OnOk result (AllZip StaysFault faults.old.items faults.new.items) }
 {
-    let mut besides = Vec::with_capacity(alloc, faults.len())?;
+    let mut entered = Vec::with_capacity(alloc, faults.len())?;
+    let mut besides = Vec::new(alloc);
     'faults: for place in 0..faults.len() {
         let own = &mut faults[place];
         let at = &mut ats[place];
-        let beside = enter_one(alloc, setup, view, own, at, slot, last)?;
-        besides.push(beside)?;
+        let found = enter_one(alloc, setup, view, own, at, slot, last)?;
+        push_found(&mut entered, &mut besides, found)?;
     }
-    Ok(besides)
+    Ok(Entrants { entered, besides })
 }

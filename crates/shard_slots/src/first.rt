@@ -18,6 +18,7 @@ ghost use Rattle.copy_lockstep.specs.window_faults.Steps.{steps_of_faults};
 ghost use Rattle.copy_lockstep.specs.window_faults.Within.{ComesThrough};
 ghost use Rattle.shard_slots.specs.Slots.{EntersFirst, HaveEnteredFirst};
 
+use crate::entrants::all_entered;
 use crate::leave::leave_each;
 use crate::room::SlotRoom;
 use crate::slots::{go_beside, view_of};
@@ -177,7 +178,9 @@ fn through_first<N: World, L: Ledger>(
     searches_begin();
     let design = setup.design();
     let plan = setup.plan();
-    let mut ats = at_start(alloc, faults.len())?;
+    let count = faults.len();
+    let mut ats = at_start(alloc, count)?;
+    let entered = all_entered(alloc, count)?;
     let mut besides = enter_at_start(alloc, setup, view, lockstep, room, faults)?;
     go_beside(
         alloc,
@@ -198,6 +201,7 @@ fn through_first<N: World, L: Ledger>(
         log,
         faults,
         &mut ats,
+        entered,
         besides,
         0,
         steps,

@@ -17,13 +17,14 @@ ghost use Rattle.copy_lockstep.specs.window_strobes.Strobes.{AreStrobesOf, passe
 ghost use Rattle.copy_lockstep.specs.phase_faults.Beside.{ticked_of};
 ghost use Rattle.copy_lockstep.specs.window_faults.Steps.{StaysFault, steps_of_fault, steps_of_faults};
 ghost use Rattle.copy_lockstep.specs.window_faults.Within.{AreWithin, IsWithin};
-ghost use Rattle.shard_slots.specs.Slots.{EntersAt, HaveGone, WentThrough};
+ghost use Rattle.shard_slots.specs.Slots.{EntersAt, HaveGone, Rests, WentIf, WentThrough, tried_if};
 
+use crate::entrants::last_if;
 use crate::let_go::let_go_ended;
 use causal_monitor::SlotLog;
 use copy_lockstep::{
     FaultAt, FaultBeside, Machine, ShardFault, WindowStrobes, begin_fault, comes_to, count_behind,
-    leave_first, leave_slot, run_whole, slots_take_own,
+    leave_first, leave_slot, listed_fault, run_whole, slots_take_own,
 };
 use good_trace::{Setup, TraceWindow};
 use std::alloc::Global;
@@ -149,6 +150,46 @@ fn leave_open<N: World, L: Ledger>(
     Ok(())
 }
 
+/// A fault behind a slot of which nothing was found before, and which didn't enter it: it is run whole through it, if it hasn't passed it.
+fn leave_rest<N: World, L: Ledger>(
+    alloc: Global,
+    setup: &Setup<'_, N>,
+    window: &TraceWindow<N>,
+    strobes: &WindowStrobes,
+    machine: &mut Machine<'_>,
+    log: &mut SlotLog,
+    own: &mut ShardFault,
+    at: &mut FaultAt,
+    slot: u32,
+    steps: &mut Steps<L>,
+) -> Result<(), NoMemory>
+    requires slot { window.now.before + slot < window.now.through }
+    requires room { IsRoom N.design machine.old }
+    requires strobes { AreStrobesOf N.design N.plan window.now.before window.now.through strobes.now }
+    requires behind { HasPassed N.design N.plan window.now.through (passed_behind strobes.now) }
+    requires none { own.old.end ≡ None }
+    requires rests { Rests N.design N.plan window.now.before window.now.through slot own.old at.old }
+    ensures within { OnOk result (IsWithin N.design N.plan window.now.before window.now.through own.new at.new) }
+    ensures come { OnOk result (own.new.end ≡ None → slot + 1 ≤ at.new.slot) }
+    ensures stays { OnOk result (StaysFault own.old own.new) }
+    ensures room { OnOk result (IsRoom N.design machine.new) }
+    ensures ticks { OnOk result (RisesOwn N.design N.plan (λ tally. steps_of_fault tally (window.now.before + slot) own.old) (λ tally. steps_of_fault tally (window.now.before + (slot + 1)) own.new)
+        steps.old steps.new) }
+{
+    own_gradings::own_steps_rise();
+    let design = setup.design();
+    if slot < at.slot {
+        return Ok(());
+    }
+    let fault = listed_fault(setup, &own.copy);
+    let tried = Vec::new(alloc);
+    let came = run_whole(
+        alloc, setup, window, strobes, fault, &tried, machine, log, own, *at, steps,
+    )?;
+    *at = came;
+    Ok(())
+}
+
 /// A fault behind a slot. If its grading ended there it keeps no copy any more.
 fn leave_one<N: World, L: Ledger>(
     alloc: Global,
@@ -159,7 +200,7 @@ fn leave_one<N: World, L: Ledger>(
     log: &mut SlotLog,
     own: &mut ShardFault,
     at: &mut FaultAt,
-    beside: FaultBeside,
+    found: Option<FaultBeside>,
     slot: u32,
     steps: &mut Steps<L>,
 ) -> Result<(), NoMemory>
@@ -169,19 +210,26 @@ fn leave_one<N: World, L: Ledger>(
     requires room { IsRoom N.design machine.old }
     requires strobes { AreStrobesOf N.design N.plan window.now.before window.now.through strobes.now }
     requires behind { HasPassed N.design N.plan window.now.through (passed_behind strobes.now) }
-    requires went { WentThrough N.design N.plan window.now.before window.now.through slot own.old at.old beside }
+    requires went { WentIf N.design N.plan window.now.before window.now.through slot own.old at.old found }
     ensures within { OnOk result (IsWithin N.design N.plan window.now.before window.now.through own.new at.new) }
     ensures come { OnOk result (own.new.end ≡ None → slot + 1 ≤ at.new.slot) }
     ensures stays { OnOk result (StaysFault own.old own.new) }
     ensures room { OnOk result (IsRoom N.design machine.new) }
     ensures ticks { OnOk result (RisesOwn N.design N.plan (λ tally. steps_of_fault tally (window.now.before + slot) own.old) (λ tally. steps_of_fault tally (window.now.before + (slot + 1)) own.new)
-        steps.old (steps.new + length beside.one.tried.items)) }
+        steps.old (steps.new + tried_if found)) }
 {
     own_gradings::own_steps_rise();
     let design = setup.design();
     if own.end.is_some() {
         return Ok(());
     }
+    let Some(beside) = found else {
+        leave_rest(
+            alloc, setup, window, strobes, machine, log, own, at, slot, steps,
+        )?;
+        let_go_ended(alloc, own);
+        return Ok(());
+    };
     leave_open(
         alloc, setup, window, strobes, machine, log, own, at, beside, slot, steps,
     )?;
@@ -203,6 +251,7 @@ pub(crate) fn leave_each<N: World, L: Ledger>(
     log: &mut SlotLog,
     faults: &mut Vec<ShardFault>,
     ats: &mut Vec<FaultAt>,
+    entered: Vec<bool>,
     besides: Vec<FaultBeside>,
     slot: u32,
     steps: &mut Steps<L>,
@@ -213,20 +262,22 @@ pub(crate) fn leave_each<N: World, L: Ledger>(
     requires room { IsRoom N.design machine.old }
     requires strobes { AreStrobesOf N.design N.plan window.now.before window.now.through strobes.now }
     requires behind { HasPassed N.design N.plan window.now.through (passed_behind strobes.now) }
-    requires gone { HaveGone N.design N.plan window.now.before window.now.through slot faults.old.items ats.old.items besides.items }
+    requires gone { HaveGone N.design N.plan window.now.before window.now.through slot faults.old.items ats.old.items entered.items besides.items }
     ensures within { OnOk result (AreWithin N.design N.plan window.now.before window.now.through (slot + 1) faults.new.items ats.new.items) }
     ensures faults { OnOk result (AllZip StaysFault faults.old.items faults.new.items) }
     ensures room { OnOk result (IsRoom N.design machine.new) }
     ensures ticks { OnOk result (RisesOwn N.design N.plan (λ tally. steps_of_faults tally (window.now.before + slot) faults.old.items)
         (λ tally. steps_of_faults tally (window.now.before + (slot + 1)) faults.new.items) steps.old (steps.new + sum_by ticked_of besides.items)) }
 {
+    let mut entered = entered;
     let mut besides = besides;
-    'faults: while let Some(beside) = besides.pop() {
-        let place = besides.len();
+    'faults: while let Some(goes) = entered.pop() {
+        let place = entered.len();
+        let found = last_if(&mut besides, goes);
         let own = &mut faults[place];
         let at = &mut ats[place];
         leave_one(
-            alloc, setup, window, strobes, machine, log, own, at, beside, slot, steps,
+            alloc, setup, window, strobes, machine, log, own, at, found, slot, steps,
         )?;
     }
     Ok(())

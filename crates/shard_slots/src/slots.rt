@@ -104,7 +104,9 @@ fn go_slot<N: World, L: Ledger>(
     searches_begin();
     own_gradings::own_steps_rise();
     let plan = setup.plan();
-    let mut besides = enter_each(alloc, setup, view, faults, ats, slot, last)?;
+    let entrants = enter_each(alloc, setup, view, faults, ats, slot, last)?;
+    let entered = entrants.entered;
+    let mut besides = entrants.besides;
     go_beside(
         alloc,
         setup,
@@ -124,6 +126,7 @@ fn go_slot<N: World, L: Ledger>(
         log,
         faults,
         ats,
+        entered,
         besides,
         slot,
         steps,

@@ -1,7 +1,7 @@
 -- One fault more.
-use Rattle.std.proofs.Common.{◌≡◌, ◌+◌, ◌<◌, ◌≤◌, List, [], length, sym, ap, subst, ◌∙◌, arith}
-use Rattle.std.specs.Prelude.{None, Some, slice_get}
-use Rattle.std.proofs.lemmas.List.{length-set, length_push}
+use Rattle.std.proofs.Common.{◌≡◌, ℕ, ◌+◌, ◌<◌, ◌≤◌, Bool, List, [], ◌∷◌, ◌++◌, length, refl, sym, ap, ◌∙◌, arith}
+use Rattle.std.specs.Prelude.{None, Some, is_some, option_to_list, slice_get}
+use Rattle.std.proofs.lemmas.List.{length-set, length_push, map-append}
 use Rattle.copy_lockstep.specs.copy_window.declared.fault.ShardFault.{ShardFault}
 use Rattle.copy_lockstep.specs.phase_faults.declared.beside.FaultBeside.{FaultBeside}
 use Rattle.copy_lockstep.specs.window_faults.Steps.{StaysFault}
@@ -10,16 +10,23 @@ use Rattle.copy_lockstep.specs.window_faults.declared.at.FaultAt.{FaultAt}
 use Rattle.copy_lockstep.proofs.window_faults.Lists.{at-read, zip-length, zip-refl, zip-set}
 use Rattle.shard_slots.proofs.Looping.{more-beside, still-behind}
 use Rattle.copy_lockstep.proofs.window_faults.Steps.{stays-on, stays-same}
-use Rattle.shard_slots.specs.Slots.{Enters}
+use Rattle.shard_slots.specs.Slots.{EntersIf}
+use Rattle.shard_slots.proofs.Somes.{somes-push}
 use Rattle.shard_slots.proofs.enter.enter_each.Goals as goal
+
+none-there : {C P : Type 0} (place : ℕ) (one : C) → slice_get {X = C} [] place ≡ Some one → P
+none-there place one here = absurd (let none : slice_get [] place ≡ Some one = here in cc)
 
 pub faults-init : goal.faults-init
 faults-init g c = record {
   zip = zip-refl StaysFault stays-same c.args.faults.now.items;
   count = c.requires.within.count;
-  got = ap length c.in_ok-besides.ensures.items;
+  founds = [];
+  got = refl;
   most = omega arith;
-  each = λ place own at beside here there one. absurd (let none : slice_get {X = FaultBeside} [] place ≡ Some beside = subst (λ (l : List FaultBeside). slice_get l place ≡ Some beside) c.in_ok-besides.ensures.items one in cc);
+  entered_are = c.in_ok-entered.ensures.items;
+  besides_are = c.new-besides.ensures.items;
+  each = λ place own at found here there one. none-there place found one;
   within = λ place own at low here there. c.requires.within.each place own at here there;
   come = λ place own at low here there none. c.requires.within.come place own at here there none;
 }
@@ -60,16 +67,21 @@ faults-preserved g c =
     let at = c.enter_one.new.at in
     let same = zip-length StaysFault c.args.faults.now.items xs c.faults.invariant.zip in
     let low : i < length xs = omega (arith, c.faults-test.true, c.len-place-end.ensures, same) in
-    let R = Enters design plan window.before window.through c.args.slot in
+    let R = EntersIf design plan window.before window.through c.args.slot in
+    let founds = c.faults.invariant.founds in
     record {
       zip = zip-set StaysFault stays-on c.args.faults.now.items xs i c.index_mut-own.result.now own c.faults.invariant.zip c.index_mut-own.ensures.value (omega (arith, low, same))
-          c.in_ok-beside.ensures.stays;
+          c.in_ok-found.ensures.stays;
       count = length-set ys i at ∙ c.faults.invariant.count ∙ sym (length-set xs i own);
-      got = ap length c.in_ok-push.ensures.items ∙ (length_push c.faults.besides.items c.in_ok-beside.beside ∙ ap (λ n. n + 1) c.faults.invariant.got);
+      founds = founds ++ c.in_ok-found.found ∷ [];
+      got = length_push founds c.in_ok-found.found ∙ ap (λ n. n + 1) c.faults.invariant.got;
       most = omega (arith, low, same);
-      each = λ place u v w one two three. more-beside (IsWithin design plan window.before window.through) R xs ys c.faults.besides.items i own at c.in_ok-beside.beside low c.faults.invariant.count
-          c.faults.invariant.got c.in_ok-beside.ensures.enters c.faults.invariant.each place u v w one two
-          (subst (λ (l : List FaultBeside). slice_get l place ≡ Some w) c.in_ok-push.ensures.items three);
+      entered_are =
+          c.in_ok-push_found.ensures.entered ∙ ap (λ (l : List Bool). l ++ is_some c.in_ok-found.found ∷ []) c.faults.invariant.entered_are ∙ sym (map-append is_some founds (c.in_ok-found.found ∷ []));
+      besides_are =
+          c.in_ok-push_found.ensures.besides ∙ ap (λ (l : List FaultBeside). l ++ option_to_list c.in_ok-found.found) c.faults.invariant.besides_are ∙ sym (somes-push founds c.in_ok-found.found);
+      each = more-beside (IsWithin design plan window.before window.through) R xs ys founds i own at c.in_ok-found.found low c.faults.invariant.count
+          c.faults.invariant.got c.in_ok-found.ensures.enters c.faults.invariant.each;
       within = still-behind (IsWithin design plan window.before window.through) R xs ys i own at low c.faults.invariant.count c.faults.invariant.within;
       come = still-behind (λ (o : ShardFault) (a : FaultAt). o.end ≡ None → c.args.slot ≤ a.slot) R xs ys i own at low c.faults.invariant.count c.faults.invariant.come;
     }
@@ -78,9 +90,14 @@ pub returns-clause-entered : goal.returns-clause-entered
 returns-clause-entered g c =
     let same = zip-length StaysFault c.args.faults.now.items c.faults.faults.items c.faults.invariant.zip in
     record {
-      count = c.faults.invariant.count;
-      beside = omega (arith, c.faults.invariant.got, c.faults-test.false, c.faults.invariant.most, c.len-place-end.ensures, same);
-      each = c.faults.invariant.each;
+      founds = c.faults.invariant.founds;
+      are = record {
+        count = c.faults.invariant.count;
+        beside = omega (arith, c.faults.invariant.got, c.faults-test.false, c.faults.invariant.most, c.len-place-end.ensures, same);
+        each = c.faults.invariant.each;
+      };
+      entered_are = c.faults.invariant.entered_are;
+      besides_are = c.faults.invariant.besides_are;
     }
 
 pub returns-clause-faults : goal.returns-clause-faults

@@ -8,9 +8,9 @@ use Rattle.copy_lockstep.specs.copy_window.declared.fault.ShardFault.{ShardFault
 use Rattle.copy_lockstep.specs.Entered.{HasEntered}
 use Rattle.copy_lockstep.specs.declared.entered.Entered.{Entered}
 use Rattle.copy_lockstep.specs.window_faults.Within.{IsWithin}
-use Rattle.shard_slots.specs.Slots.{Enters}
+use Rattle.shard_slots.specs.Slots.{Rests}
 use Rattle.shard_slots.proofs.Ended.{same-fault, still-ended}
-use Rattle.shard_slots.proofs.Entering.{ended-there, enters-there, passed-there, rests-there}
+use Rattle.shard_slots.proofs.Entering.{ended-there, enters-there, passed-there}
 use Rattle.shard_slots.proofs.enter.enter_open.Goals as goal
 
 pub enter-requires-clause-some : goal.enter-requires-clause-some
@@ -27,9 +27,8 @@ returns-in-Passed-clause-enters g c =
     let window = c.args.view.now.window.now in
     let told = subst (λ (e : Entered). HasEntered g.N.World.design g.N.World.plan (fault_of c.args.fault) window (record { slot = c.args.at.now.slot; passed = c.args.at.now.passed }) c.args.last c.args.own.now c.enter.new.own e) c.in-Passed.is
     c.in_ok-entered.ensures.entered in
-    passed-there g.N.World.design g.N.World.plan window.before window.through c.args.at.now.slot (fault_of c.args.fault) c.args.last c.in-Passed.further c.enter.new.own _ c.rests.result
-    c.requires.last told refl refl
-    (ap (slice_get g.N.World.plan.faults) c.in_ok-entered.ensures.place.number ∙ c.requires.listed ∙ ap (λ (f : Fault). Some (fault_of f)) (sym c.rests.ensures.fault)) c.rests.ensures.rests c.rests.ensures.none
+    passed-there g.N.World.design g.N.World.plan window.before window.through c.args.at.now.slot (fault_of c.args.fault) c.args.last c.in-Passed.further c.enter.new.own _
+    c.requires.some c.requires.last told refl refl
 
 pub returns-in-Ended-clause-enters : goal.returns-in-Ended-clause-enters
 returns-in-Ended-clause-enters g c =
@@ -37,11 +36,8 @@ returns-in-Ended-clause-enters g c =
     let told = subst (λ (e : Entered). HasEntered g.N.World.design g.N.World.plan (fault_of c.args.fault) window (record { slot = c.args.at.now.slot; passed = c.args.at.now.passed }) c.args.last c.args.own.now c.enter.new.own e) c.in-Ended.is
     c.in_ok-entered.ensures.entered in
     ended-there g.N.World.design g.N.World.plan window.before window.through c.args.at.now.slot c.faults_go_on.ensures
-    (design-rules g.N.World.design c.design-design.result.now c.design-design.ensures.world) c.let_go_ended.new.own _ c.rests-in-Ended.result c.requires.slot
+    (design-rules g.N.World.design c.design-design.result.now c.design-design.ensures.world) c.let_go_ended.new.own _ c.requires.some c.requires.slot
     (still-ended c.enter.new.own c.let_go_ended.new.own c.let_go_ended.ensures g.N.World.design g.N.World.plan (suc (window.before + c.args.at.now.slot)) told) refl
-    (ap (slice_get g.N.World.plan.faults)
-    (same-fault c.enter.new.own c.let_go_ended.new.own c.let_go_ended.ensures c.args.own.now c.in_ok-entered.ensures.place).number ∙ c.requires.listed ∙ ap (λ (f : Fault). Some (fault_of f)) (sym c.rests-in-Ended.ensures.fault)) c.rests-in-Ended.ensures.rests
-    c.rests-in-Ended.ensures.none
 
 pub returns-in-Ended-clause-place : goal.returns-in-Ended-clause-place
 returns-in-Ended-clause-place g c = same-fault c.enter.new.own c.let_go_ended.new.own c.let_go_ended.ensures c.args.own.now c.in_ok-entered.ensures.place
@@ -51,9 +47,8 @@ returns-in-Whole-clause-enters g c =
     let window = c.args.view.now.window.now in
     let told = subst (λ (e : Entered). HasEntered g.N.World.design g.N.World.plan (fault_of c.args.fault) window (record { slot = c.args.at.now.slot; passed = c.args.at.now.passed }) c.args.last c.args.own.now c.enter.new.own e) c.in-Whole.is
     c.in_ok-entered.ensures.entered in
-    subst (λ (own : ShardFault). Enters g.N.World.design g.N.World.plan window.before window.through c.args.at.now.slot own c.args.at.now c.rests-in-Whole.result) (sym told)
-    (rests-there g.N.World.design g.N.World.plan window.before window.through c.args.at.now.slot c.args.own.now c.args.at.now c.rests-in-Whole.result c.requires.within (λ none. omega arith)
-    (c.requires.listed ∙ ap (λ (f : Fault). Some (fault_of f)) (sym c.rests-in-Whole.ensures.fault)) c.rests-in-Whole.ensures.rests c.rests-in-Whole.ensures.none)
+    subst (λ (own : ShardFault). Rests g.N.World.design g.N.World.plan window.before window.through c.args.at.now.slot own c.args.at.now) (sym told)
+    (record { later = c.requires.some; within = c.requires.within; come = λ none. omega arith })
 
 pub returns-in-On-clause-enters : goal.returns-in-On-clause-enters
 returns-in-On-clause-enters g c =

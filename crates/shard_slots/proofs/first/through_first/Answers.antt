@@ -28,18 +28,18 @@ go_beside-requires-clause-slot g c κs within = omega (arith, c.requires.first, 
 pub go_beside-requires-clause-begins : goal.go_beside-requires-clause-begins
 go_beside-requires-clause-begins g c κs within =
     let w = c.args.view.now.window.now in
-    begin-each g.N.World.design g.N.World.plan w.before w.through 0 c.args.faults.now.items c.in_ok-ats.ats.items c.in_ok-besides.besides.items
-    (all-entered g.N.World.design g.N.World.plan w w c.args.strobes.now.passed c.len.result c.args.faults.now.items _ c.in_ok-ats.ats.items c.in_ok-besides.besides.items
-    refl c.requires.first c.requires.one c.requires.more c.requires.strobes.has_passed c.requires.faults c.deref.ensures.value (omega (arith, c.len.ensures, c.args.faults.now.ok.0)) c.in_ok-ats.ensures
-    c.in_ok-besides.ensures.entered)
+    begin-each g.N.World.design g.N.World.plan w.before w.through 0 c.args.faults.now.items c.in_ok-ats.ats.items c.in_ok-entered.entered.items c.in_ok-besides.besides.items
+    (all-entered g.N.World.design g.N.World.plan w w c.args.strobes.now.passed c.len-count.result c.args.faults.now.items _ c.in_ok-ats.ats.items c.in_ok-entered.entered.items c.in_ok-besides.besides.items
+    refl c.requires.first c.requires.one c.requires.more c.requires.strobes.has_passed c.requires.faults c.deref.ensures.value (omega (arith, c.len-count.ensures, c.args.faults.now.ok.0)) c.in_ok-ats.ensures
+    c.in_ok-entered.ensures c.in_ok-besides.ensures.entered)
 
 pub go_beside-requires-clause-sites : goal.go_beside-requires-clause-sites
 go_beside-requires-clause-sites g c κs within =
     let w = c.args.view.now.window.now in
-    sites g.N.World.design g.N.World.plan w.before w.through 0 c.args.faults.now.items c.in_ok-ats.ats.items c.in_ok-besides.besides.items
-    (all-entered g.N.World.design g.N.World.plan w w c.args.strobes.now.passed c.len.result c.args.faults.now.items _ c.in_ok-ats.ats.items c.in_ok-besides.besides.items
-    refl c.requires.first c.requires.one c.requires.more c.requires.strobes.has_passed c.requires.faults c.deref.ensures.value (omega (arith, c.len.ensures, c.args.faults.now.ok.0)) c.in_ok-ats.ensures
-    c.in_ok-besides.ensures.entered)
+    sites g.N.World.design g.N.World.plan w.before w.through 0 c.args.faults.now.items c.in_ok-ats.ats.items c.in_ok-entered.entered.items c.in_ok-besides.besides.items
+    (all-entered g.N.World.design g.N.World.plan w w c.args.strobes.now.passed c.len-count.result c.args.faults.now.items _ c.in_ok-ats.ats.items c.in_ok-entered.entered.items c.in_ok-besides.besides.items
+    refl c.requires.first c.requires.one c.requires.more c.requires.strobes.has_passed c.requires.faults c.deref.ensures.value (omega (arith, c.len-count.ensures, c.args.faults.now.ok.0)) c.in_ok-ats.ensures
+    c.in_ok-entered.ensures c.in_ok-besides.ensures.entered)
     c.searches_begin.ensures c.plan-plan.ensures.fits
 
 pub leave_each-requires-clause-one : goal.leave_each-requires-clause-one
@@ -54,10 +54,10 @@ leave_each-requires-clause-slot g c κs within = omega (arith, c.requires.first,
 pub leave_each-requires-clause-gone : goal.leave_each-requires-clause-gone
 leave_each-requires-clause-gone g c κs within =
     let w = c.args.view.now.window.now in
-    have-gone g.N.World.design g.N.World.plan w.before w.through 0 c.args.faults.now.items c.in_ok-ats.ats.items c.in_ok-besides.besides.items c.go_beside.new.besides.items
-    (all-entered g.N.World.design g.N.World.plan w w c.args.strobes.now.passed c.len.result c.args.faults.now.items _ c.in_ok-ats.ats.items c.in_ok-besides.besides.items
-    refl c.requires.first c.requires.one c.requires.more c.requires.strobes.has_passed c.requires.faults c.deref.ensures.value (omega (arith, c.len.ensures, c.args.faults.now.ok.0)) c.in_ok-ats.ensures
-    c.in_ok-besides.ensures.entered)
+    have-gone g.N.World.design g.N.World.plan w.before w.through 0 c.args.faults.now.items c.in_ok-ats.ats.items c.in_ok-entered.entered.items c.in_ok-besides.besides.items c.go_beside.new.besides.items
+    (all-entered g.N.World.design g.N.World.plan w w c.args.strobes.now.passed c.len-count.result c.args.faults.now.items _ c.in_ok-ats.ats.items c.in_ok-entered.entered.items c.in_ok-besides.besides.items
+    refl c.requires.first c.requires.one c.requires.more c.requires.strobes.has_passed c.requires.faults c.deref.ensures.value (omega (arith, c.len-count.ensures, c.args.faults.now.ok.0)) c.in_ok-ats.ensures
+    c.in_ok-entered.ensures c.in_ok-besides.ensures.entered)
     c.in_ok-go_beside.ensures.besides
 
 pub returns-clause-faults : goal.returns-clause-faults
@@ -73,10 +73,10 @@ returns-clause-ticks g c tally =
     let here : w.before ≡ w.before + 0 = omega arith in
     let there : w.before + (0 + 1) ≡ w.through = omega (arith, c.requires.first, c.requires.one) in
     let same = ap (λ (n : ℕ). steps_of_faults tally n c.args.faults.now.items) here in
-    let none = none-ticked g.N.World.design g.N.World.plan w.before w.through 0 c.args.faults.now.items c.in_ok-ats.ats.items c.in_ok-besides.besides.items
-    (all-entered g.N.World.design g.N.World.plan w w c.args.strobes.now.passed c.len.result c.args.faults.now.items _ c.in_ok-ats.ats.items c.in_ok-besides.besides.items
-    refl c.requires.first c.requires.one c.requires.more c.requires.strobes.has_passed c.requires.faults c.deref.ensures.value (omega (arith, c.len.ensures, c.args.faults.now.ok.0)) c.in_ok-ats.ensures
-    c.in_ok-besides.ensures.entered) in
+    let none = none-ticked g.N.World.design g.N.World.plan w.before w.through 0 c.args.faults.now.items c.in_ok-ats.ats.items c.in_ok-entered.entered.items c.in_ok-besides.besides.items
+    (all-entered g.N.World.design g.N.World.plan w w c.args.strobes.now.passed c.len-count.result c.args.faults.now.items _ c.in_ok-ats.ats.items c.in_ok-entered.entered.items c.in_ok-besides.besides.items
+    refl c.requires.first c.requires.one c.requires.more c.requires.strobes.has_passed c.requires.faults c.deref.ensures.value (omega (arith, c.len-count.ensures, c.args.faults.now.ok.0)) c.in_ok-ats.ensures
+    c.in_ok-entered.ensures c.in_ok-besides.ensures.entered) in
     subst (λ (n : ℕ). RisesWithin (steps_of_faults tally w.before c.args.faults.now.items) (steps_of_faults tally n c.leave_each.new.faults.items) c.args.steps.now c.leave_each.new.steps) there
     (slot-rises (steps_of_faults tally w.before c.args.faults.now.items) (steps_of_faults tally (w.before + 0) c.args.faults.now.items) _ _ _ c.args.steps.now c.go_beside.new.steps
     c.leave_each.new.steps (omega (arith, same)) none c.in_ok-go_beside.ensures.ticks (c.in_ok-leave_each.ensures.ticks tally))
