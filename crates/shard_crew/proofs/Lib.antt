@@ -1,4 +1,5 @@
 pub mod Crossing
+pub mod Left
 pub mod Ticks
 pub mod Visiting
 pub use Rattle.shard_findings.proofs as shard_findings

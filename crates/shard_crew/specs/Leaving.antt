@@ -1,7 +1,10 @@
--- Which shards have a slot in a round (nothing of the language).
-use Rattle.std.specs.Prelude.{◌≡◌, ℕ, ◌<◌, true, List, length}
-use Rattle.std.specs.List.{All}
+-- Which shards have a slot in a round, and of which a copy is left there (nothing of the language).
+use Rattle.std.specs.Prelude.{◌≡◌, ℕ, ◌<◌, true, false, if◌then◌else◌, List, [], ◌∷◌, length}
+use Rattle.std.specs.List.{All, flat_map, list_any}
 use Rattle.fault_shards.specs.Cuts.{shard_count}
+use Rattle.shard_findings.specs.copy_shard.Copied.{IsSameShard}
+use Rattle.shard_findings.specs.copy_shard.Shards.{ShardKept, goes_on}
+use Rattle.shard_findings.specs.shard_turns.Backups.{Leaves, ShardCalls}
 use Rattle.shard_findings.specs.shard_claims.Workers.{visits_in}
 use Rattle.shard_findings.specs.copy_shard.declared.together.ClaimedShard.{ClaimedShard}
 use Rattle.shard_findings.specs.shard_claims.declared.worker.Worker.{Worker}
@@ -19,3 +22,21 @@ module _ {N : Type 0} where
   -- the shards of a worker that has claimed are numbered below the count of the shards of a list
   abbrev pub AreNumbered : List ℕ → Worker N → Type 0
   AreNumbered representatives worker = worker.dry ≡ true → All (λ (claimed : ClaimedShard N). claimed.number < shard_count (length representatives)) worker.shards.items
+
+  -- of a shard that goes on the same shard once more is left in the slot of its number, of any other nothing is
+  pub record IsLeft (claimed : ClaimedShard N) (old new : ShardCalls) : Type 0 where
+    pub copied : list_any goes_on claimed.shard.faults ≡ true → (copy : ShardKept) × IsSameShard claimed.shard copy × Leaves claimed.number copy old new
+    pub none : list_any goes_on claimed.shard.faults ≡ false → new ≡ old
+
+  -- so it is of each, in order
+  abbrev pub AreLeft : List (ClaimedShard N) → ShardCalls → ShardCalls → Type 0
+  AreLeft [] old new = new ≡ old
+  AreLeft (claimed ∷ others) old new = (between : ShardCalls) × IsLeft claimed old between × AreLeft others between new
+
+  -- the shards of a worker, once it has claimed
+  abbrev pub shards_of : Worker N → List (ClaimedShard N)
+  shards_of worker = if worker.dry then worker.shards.items else []
+
+  -- those of all
+  abbrev pub shards_of_all : List (Worker N) → List (ClaimedShard N)
+  shards_of_all workers = flat_map shards_of workers

@@ -3,7 +3,8 @@
 ghost use Rattle.std.specs.Prelude.{IfOk};
 ghost use Rattle.std.specs.List.{All};
 ghost use Rattle.shard_findings.specs.shard_claims.Workers.{IsBackupSeat, StaysSeat};
-ghost use Rattle.shard_crew.specs.Leaving.{HasSlot, HaveSlots};
+ghost use Rattle.shard_findings.specs.shard_turns.Backups.{slot_calls};
+ghost use Rattle.shard_crew.specs.Leaving.{AreLeft, HasSlot, HaveSlots, IsLeft, shards_of, shards_of_all};
 
 use shard_findings::{BackupSeat, Backups, ClaimedShard, Worker};
 use std::alloc::Global;
@@ -19,7 +20,8 @@ fn leave_shard<N: World>(
 ) -> Result<BackupSeat<N>, NoMemory>
     requires own { IsBackupSeat backups.now seat }
     requires slot { HasSlot backups.now claimed.now }
-    ensures { IfOk result (StaysSeat backups.now seat) }
+    ensures stays { IfOk result (StaysSeat backups.now seat) }
+    ensures left { IfOk result (λ after. IsLeft claimed.now (slot_calls seat) (slot_calls after)) }
 {
     if !claimed.shard.goes_on() {
         return Ok(seat);
@@ -38,7 +40,8 @@ fn leave_shards<N: World>(
 ) -> Result<BackupSeat<N>, NoMemory>
     requires own { IsBackupSeat backups.now seat }
     requires slots { All (HasSlot backups.now) shards.now }
-    ensures { IfOk result (StaysSeat backups.now seat) }
+    ensures stays { IfOk result (StaysSeat backups.now seat) }
+    ensures left { IfOk result (λ after. AreLeft shards.now (slot_calls seat) (slot_calls after)) }
 {
     let mut seat = seat;
     'shards: for claimed in shards {
@@ -56,7 +59,8 @@ fn leave_worker<N: World>(
 ) -> Result<BackupSeat<N>, NoMemory>
     requires own { IsBackupSeat backups.now seat }
     requires slots { HaveSlots backups.now worker.now }
-    ensures { IfOk result (StaysSeat backups.now seat) }
+    ensures stays { IfOk result (StaysSeat backups.now seat) }
+    ensures left { IfOk result (λ after. AreLeft (shards_of worker.now) (slot_calls seat) (slot_calls after)) }
 {
     if !worker.dry {
         return Ok(seat);
@@ -77,7 +81,8 @@ pub fn leave_copies<N: World>(
 ) -> Result<BackupSeat<N>, NoMemory>
     requires own { IsBackupSeat backups.now seat }
     requires slots { All (HaveSlots backups.now) workers.now }
-    ensures { IfOk result (StaysSeat backups.now seat) }
+    ensures stays { IfOk result (StaysSeat backups.now seat) }
+    ensures left { IfOk result (λ after. AreLeft (shards_of_all workers.now) (slot_calls seat) (slot_calls after)) }
 {
     let mut seat = seat;
     'workers: for worker in workers {

@@ -3,6 +3,7 @@
 ghost use Rattle.std.specs.Prelude.{◌≡◌, ◌+◌, ◌<◌, ◌≤◌, ◌^◌, IfNone, IfOk, IfSome, IsTrue, OnOk};
 ghost use Rattle.verdict_words.specs.JobSeats.{slots_of};
 ghost use Rattle.verdict_words.specs.Seats.{view, claims_of};
+ghost use Rattle.verdict_words.specs.Slots.{joined_calls, no_calls};
 ghost use Rattle.verdict_words.specs.Views.{first_view, joined, lent_share, newcomer, with_claim, with_none, without_lent};
 
 use copy_shard::Shard;
@@ -35,7 +36,7 @@ fn slots_for(shards: u32) -> u32
 }
 
 impl<N: World> Backups<N> {
-    ghost use Rattle.shard_turns.specs.Backups.{AddUp, IsBackupSeat, StaysSeat, visited_by, visits_in};
+    ghost use Rattle.shard_turns.specs.Backups.{AddUp, Empties, IsBackupSeat, Leaves, StaysSeat, slot_calls, visited_by, visits_in};
 
     /// Empty slots for so many shards, none of them visited, and the first seat.
     ///
@@ -43,7 +44,8 @@ impl<N: World> Backups<N> {
     ///
     /// Want of memory.
     pub fn new(alloc: Global, shards: u32) -> Result<(Backups<N>, BackupSeat<N>), NoMemory>
-        ensures { IfOk result (λ made. (visits_in made.0 ≡ shards) × IsBackupSeat made.0 made.1 × (view made.1.visits ≡ first_view)) }
+        ensures { IfOk result (λ made. (visits_in made.0 ≡ shards) × IsBackupSeat made.0 made.1 × (view made.1.visits ≡ first_view)
+            × (slot_calls made.1 ≡ no_calls)) }
     {
         let (jobs, job) = Jobs::<Shard<N>>::new(alloc, slots_for(shards))?;
         let (visits, seat) = Board::<N>::new(alloc, 0, shards)?;
@@ -58,6 +60,7 @@ impl<N: World> Backups<N> {
         ensures own { IsBackupSeat self.now result.0 × IsBackupSeat self.now result.1 }
         ensures old { view result.0.visits ≡ without_lent (view seat.visits) }
         ensures new { view result.1.visits ≡ newcomer (view seat.visits) }
+        ensures calls { (slot_calls result.0 ≡ slot_calls seat) × (slot_calls result.1 ≡ no_calls) }
     {
         let BackupSeat { job, visits } = seat;
         let (job, other) = self.jobs.split(job);
@@ -77,6 +80,7 @@ impl<N: World> Backups<N> {
         requires other { IsBackupSeat self.now other }
         ensures own { IsBackupSeat self.now result }
         ensures both { view result.visits ≡ joined (view one.visits) (view other.visits) }
+        ensures calls { slot_calls result ≡ joined_calls (slot_calls one) (slot_calls other) }
     {
         let BackupSeat { job, visits } = one;
         let BackupSeat {
@@ -88,11 +92,12 @@ impl<N: World> Backups<N> {
         BackupSeat { job, visits }
     }
 
-    /// Leaves a copy in the slot of a shard's number. Where another seat holds the slot, the copy is let go of.
+    /// Leaves a copy in the slot of a shard's number, in place of what lies there. Where another seat holds the slot, the copy is let go of.
     pub fn leave(&self, seat: BackupSeat<N>, number: u32, copy: Shard<N>) -> BackupSeat<N>
         requires own { IsBackupSeat self.now seat }
         requires number { number < visits_in self.now }
-        ensures { StaysSeat self.now seat result }
+        ensures stays { StaysSeat self.now seat result }
+        ensures left { Leaves number copy (slot_calls seat) (slot_calls result) }
     {
         let BackupSeat { job, visits } = seat;
         let (job, taken) = self.jobs.take(job, number);
@@ -109,7 +114,8 @@ impl<N: World> Backups<N> {
     pub fn take(&self, seat: BackupSeat<N>, number: u32) -> (BackupSeat<N>, Option<Shard<N>>)
         requires own { IsBackupSeat self.now seat }
         requires number { number < visits_in self.now }
-        ensures { StaysSeat self.now seat result.0 }
+        ensures stays { StaysSeat self.now seat result.0 }
+        ensures taken { Empties number result.1 (slot_calls seat) (slot_calls result.0) }
     {
         let BackupSeat { job, visits } = seat;
         let (job, taken) = self.jobs.take(job, number);
@@ -130,6 +136,7 @@ impl<N: World> Backups<N> {
         ensures some { IfSome result.1 (λ number. (number < visits_in self.now) × ((view seat.visits).calls ≤ number)
             × (view result.0.visits ≡ with_claim number (view seat.visits))) }
         ensures none { IfNone result.1 (view result.0.visits ≡ with_none (view seat.visits)) }
+        ensures calls { slot_calls result.0 ≡ slot_calls seat }
     {
         let BackupSeat { job, visits } = seat;
         let (visits, number) = self.visits.claim(visits);

@@ -1,7 +1,8 @@
 -- What clauses say of the jobs and of their seats (nothing of the language).
 use Rattle.std.specs.Prelude.{◌≡◌, ℕ, ◌<◌, Option, [], ◌∷◌}
 use Rattle.verdict_words.specs.declared.jobs.rule.Hold.TheVariants.{Free, Slot}
-use Rattle.verdict_words.specs.Slots.{refusals}
+use Rattle.verdict_words.specs.Slots.{hold_calls}
+use Rattle.verdict_words.specs.declared.jobs.rule.SlotCalls.{SlotCalls}
 use Rattle.verdict_words.specs.declared.jobs.Jobs.{Jobs}
 use Rattle.verdict_words.specs.declared.jobs.JobSeat.{JobSeat}
 use Rattle.verdict_words.specs.declared.jobs.Taken.{Taken}
@@ -16,19 +17,19 @@ module _ {J : Type 0} where
   abbrev pub slots_of : Jobs J → ℕ
   slots_of jobs = jobs.slots
 
-  -- how many times `take` found a slot held, in the calls of the seat and of those that were joined into it
-  abbrev pub refusals_of : JobSeat J → ℕ
-  refusals_of s = refusals s.seat.me.0
+  -- what the calls of the seat did, and those of the seats that were joined into it
+  abbrev pub calls_of : JobSeat J → SlotCalls (Option J)
+  calls_of s = hold_calls s.seat.me.0
 
   -- the seat holds no slot
   abbrev pub IsFree : JobSeat J → Type 0
-  IsFree s = s.seat.me ≡ (Free (refusals_of s), [])
+  IsFree s = s.seat.me ≡ (Free (calls_of s), [])
 
   -- the seat holds this slot of the jobs, with some value
   abbrev pub HoldsSlot : Jobs J → JobSeat J → ℕ → Type 0
-  HoldsSlot jobs s slot = (slot < jobs.slots) × ((value : Option J) × (s.seat.me ≡ (Slot slot (refusals_of s), (slot, value) ∷ [])))
+  HoldsSlot jobs s slot = (slot < jobs.slots) × ((value : Option J) × (s.seat.me ≡ (Slot slot (calls_of s), (slot, value) ∷ [])))
 
-  -- the first fact where the answer is Got, and the second where it is Held
-  abbrev pub MatchTaken : Taken J → Type 0 → Type 0 → Type 0
-  MatchTaken (Got job) p q = p
+  -- the first fact of what was taken where the answer is Got, and the second where it is Held
+  abbrev pub MatchTaken : Taken J → (Option J → Type 0) → Type 0 → Type 0
+  MatchTaken (Got job) p q = p job
   MatchTaken Held p q = q

@@ -20,6 +20,6 @@ mod view;
 
 pub use board::{Board, Closed, Seat, Settled};
 pub use code::verdict_code;
-pub use jobs::{JobSeat, Jobs, Taken};
+pub use jobs::{JobSeat, Jobs, SlotCalls, SlotValue, Taken};
 pub use rule::{BoardRule, Sizes};
 pub use view::{Mark, View};

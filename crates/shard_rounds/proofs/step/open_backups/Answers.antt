@@ -24,4 +24,4 @@ pub returns : goal.returns
 returns g c =
     backed-on c.args.place.now.shards.now (length c.args.workers.now) c.in_ok-backups.backups c.in_ok-backups.seat c.in_ok-seat.seat
     (backed-first c.args.place.now.shards.now (length c.args.workers.now) c.in_ok-backups.backups c.in_ok-backups.seat c.requires.few (c.in_ok-backups.ensures.0 ∙ c.count.ensures)
-    c.in_ok-backups.ensures.1 c.in_ok-backups.ensures.2) c.in_ok-seat.ensures
+    c.in_ok-backups.ensures.1 c.in_ok-backups.ensures.2) c.in_ok-seat.ensures.stays
