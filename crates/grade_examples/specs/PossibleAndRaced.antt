@@ -1,4 +1,4 @@
--- The row with a possible detection, diagnosed; and the row with a faulty race behind a hard strobe, with both strobes.
+-- A possible detection, diagnosed; and a faulty race behind a hard strobe, with both strobes.
 use Rattle.std.specs.Prelude.{◌≡◌, refl, List, [], ◌∷◌, Option, Some, None, map}
 use Rattle.four_value.specs.declared.logic.Bit.TheVariants.{Zero}
 use Rattle.v_design.specs.Designs.{TestPlan, good_machine}
@@ -21,19 +21,21 @@ fit_if (Some full) = Some (fit response full.samples)
 abbrev pub three_strobes : TestPlan
 three_strobes = record possible.test_plan { strobes = 3 ∷ 7 ∷ 17 ∷ [] }
 
-pub good_fits : fit response (samples_at (first_samples (good_machine possible.design) three_strobes.watched (first_run (good_machine possible.design) three_strobes.end)) three_strobes.strobes) ≡
-    Possible
-good_fits = refl
-
-pub fault_fits : map (λ fault. fit_if (full_grade possible.design three_strobes fault)) three_strobes.faults ≡ Some Possible ∷ []
-fault_fits = refl
-
 -- the strobe in the race's slot doesn't count
 abbrev pub both_strobes : TestPlan
 both_strobes = record raced.test_plan { strobes = 12 ∷ 20 ∷ [] }
 
-pub hard : hard_lists raced.design both_strobes ≡ (12 ∷ []) ∷ []
-hard = refl
+pub record Holds : Type 0 where
+  pub good_fits : fit response (samples_at (first_samples (good_machine possible.design) three_strobes.watched (first_run (good_machine possible.design) three_strobes.end)) three_strobes.strobes) ≡
+      Possible
+  pub fault_fits : map (λ fault. fit_if (full_grade possible.design three_strobes fault)) three_strobes.faults ≡ Some Possible ∷ []
+  pub hard : hard_lists raced.design both_strobes ≡ (12 ∷ []) ∷ []
+  pub kept : kept_strobes (hard_lists raced.design both_strobes) both_strobes.strobes ≡ 12 ∷ []
 
-pub kept : kept_strobes (hard_lists raced.design both_strobes) both_strobes.strobes ≡ 12 ∷ []
-kept = refl
+pub holds : Holds
+holds = record {
+  good_fits = refl;
+  fault_fits = refl;
+  hard = refl;
+  kept = refl;
+}
