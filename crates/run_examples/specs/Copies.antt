@@ -8,15 +8,18 @@ use Rattle.four_value.specs.declared.logic.Bit.TheVariants.{One}
 use Rattle.vf_base.specs.declared.finding.Side.TheVariants.{Faulty}
 use Rattle.vf_base.specs.declared.finding.AccessKind.TheVariants.{Read, Write}
 
--- a hard strobe doesn't end the full grade: the sample at 12, and then the race at 20
-pub goes_on : full_grade design test_plan (variable_fault 0 0 true)
-    ≡ Some (record { end = Some (race Faulty 20 1 Write 1 1 4 Read 1 2 5); samples = record { time = 12; bits = One ∷ [] } ∷ [] })
-goes_on = refl
+pub record Holds : Type 0 where
+  -- a hard strobe doesn't end the full grade: the sample at 12, and then the race at 20
+  pub goes_on : full_grade design test_plan (variable_fault 0 0 true)
+      ≡ Some (record { end = Some (race Faulty 20 1 Write 1 1 4 Read 1 2 5); samples = record { time = 12; bits = One ∷ [] } ∷ [] })
+  -- four steps of each process
+  pub good_counts : good_steps design test_plan ≡ 12
+  -- to the strobe at 12: each process goes to sleep, and the first one reads, writes and ends
+  pub run_lengths : map (λ (pair : Option ProcessRun × ProcessRun). length pair.1.steps) (runs_beside design test_plan (variable_fault 0 0 true)) ≡ 1 ∷ 1 ∷ 1 ∷ 3 ∷ []
 
--- four steps of each process
-pub good_counts : good_steps design test_plan ≡ 12
-good_counts = refl
-
--- to the strobe at 12: each process goes to sleep, and the first one reads, writes and ends
-pub run_lengths : map (λ (pair : Option ProcessRun × ProcessRun). length pair.1.steps) (runs_beside design test_plan (variable_fault 0 0 true)) ≡ 1 ∷ 1 ∷ 1 ∷ 3 ∷ []
-run_lengths = refl
+pub holds : Holds
+holds = record {
+  goes_on = refl;
+  good_counts = refl;
+  run_lengths = refl;
+}

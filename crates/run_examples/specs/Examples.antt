@@ -22,6 +22,10 @@ use Rattle.run_examples.specs.NandGate as nand_gate_example
 use Rattle.run_examples.specs.XorGate as xor_gate_example
 use Rattle.run_examples.specs.CarryBit as carry_bit_example
 use Rattle.run_examples.specs.WaitLoop as wait_loop_example
+use Rattle.run_examples.specs.OperatorValues as operator_values_example
+use Rattle.run_examples.specs.SignedValues as signed_values_example
+use Rattle.run_examples.specs.Features as features_example
+use Rattle.run_examples.specs.Copies as copies_example
 
 -- each example has its grades
 pub record WorkedExamples : Type 0 where
@@ -74,4 +78,19 @@ worked_examples = record {
   xor_gate = xor_gate_example.grades;
   carry_bit = carry_bit_example.grades;
   wait_loop = wait_loop_example.grades;
+}
+
+-- the answers of operators, small runs of every statement, signed values, and the steps of a faulty machine that the good one doesn't take, each as it stands in its file
+pub record WorkedRuns : Type 0 where
+  pub operator_values : operator_values_example.Holds
+  pub signed_values : signed_values_example.Holds
+  pub features : features_example.Holds
+  pub copies : copies_example.Holds
+
+pub worked_runs : WorkedRuns
+worked_runs = record {
+  operator_values = operator_values_example.holds;
+  signed_values = signed_values_example.holds;
+  features = features_example.holds;
+  copies = copies_example.holds;
 }

@@ -19,36 +19,6 @@ use Rattle.v_design.specs.declared.logic.ObjectKind.TheVariants.{Word, Net}
 use Rattle.four_value.specs.declared.operator.UnaryOperator.TheVariants.{Minus, ReduceAnd, ReduceOr}
 use Rattle.four_value.specs.declared.operator.BinaryOperator.TheVariants.{Add, Less}
 
--- Values
-
-pub sum_wraps : sum_of (bits_of 4 10) (bits_of 4 7) ≡ bits_of 4 1
-sum_wraps = refl
-
-pub quotients : (quotient_of false (bits_of 8 200) (bits_of 8 7) ≡ bits_of 8 28) × (remainder_of false (bits_of 8 200) (bits_of 8 7) ≡ bits_of 8 4)
-quotients = (refl, refl)
-
--- 4'b10x0 against 4'b0xx0 and 4'b1010
-pub equalities : (logical_equality (Zero ∷ X ∷ Zero ∷ One ∷ []) (Zero ∷ X ∷ X ∷ Zero ∷ []) ≡ Zero) × (logical_equality (Zero ∷ X ∷ Zero ∷ One ∷ []) (Zero ∷ One ∷ Zero ∷ One ∷ []) ≡ X)
-equalities = (refl, refl)
-
-pub truths : (truth_of (Zero ∷ Zero ∷ X ∷ One ∷ []) ≡ True) × (truth_of (Zero ∷ Zero ∷ X ∷ Zero ∷ []) ≡ Unknown)
-truths = (refl, refl)
-
-pub merges : chosen_value Unknown (Zero ∷ One ∷ Zero ∷ One ∷ []) (One ∷ Zero ∷ Zero ∷ One ∷ []) ≡ X ∷ X ∷ Zero ∷ One ∷ []
-merges = refl
-
--- gates take z as x
-pub gates : (gate_bit And (One ∷ Z ∷ []) ≡ X) × (gate_bit And (Zero ∷ Z ∷ []) ≡ Zero) × (gate_bit Or (Zero ∷ One ∷ []) ≡ One) × (gate_bit Nor (Zero ∷ X ∷ []) ≡ X)
-    × (gate_bit Xnor (One ∷ One ∷ []) ≡ One) × (gate_bit Buf (Z ∷ []) ≡ X) × (gate_bit Not (Zero ∷ []) ≡ One)
-gates = (refl, refl, refl, refl, refl, refl, refl)
-
--- 4'b10x1 against the labels 4'b1z01 and 4'b1011: casex ignores x and z on either side, casez z alone, and case nothing
-pub labels : (label_matches IgnoreXz (One ∷ X ∷ Zero ∷ One ∷ []) (One ∷ Zero ∷ Z ∷ One ∷ []) ≡ true) × (label_matches IgnoreZ (One ∷ X ∷ Zero ∷ One ∷ []) (One ∷ Zero ∷ Z ∷ One ∷ []) ≡ false)
-    × (label_matches IgnoreXz (One ∷ X ∷ Zero ∷ One ∷ []) (One ∷ One ∷ Zero ∷ One ∷ []) ≡ true) × (label_matches Exact (One ∷ X ∷ Zero ∷ One ∷ []) (One ∷ One ∷ Zero ∷ One ∷ []) ≡ false)
-labels = (refl, refl, refl, refl)
-
--- Runs
-
 abbrev pub one_process : List FlatObject → Statement → FlatDesign
 one_process objects body = record { objects = objects; joined = []; nodes = []; processes = process false 1 body ∷ [] }
 
@@ -71,9 +41,6 @@ sums =
     ∷ set_vector 3 3 5 (Concatenation 5 false (terminals (plus 4 (operand 0 4 4) (operand 1 4 4) ∷ [])))
     ∷ []))
 
-pub sums_end : ends_with sums 2 ≡ Some 15 ∷ Some 1 ∷ Some 16 ∷ Some 0 ∷ []
-sums_end = refl
-
 -- for (i = 0; i < 4; i = i + 1) n = n + i
 abbrev pub counting : FlatDesign
 counting =
@@ -81,19 +48,9 @@ counting =
     (For (at 1) (WholeTarget (variable 0 4) ∷ []) (number 4 0) (less (operand 0 4 4) (number 4 4)) (WholeTarget (variable 0 4) ∷ []) (plus 4 (operand 0 4 4) (number 4 1))
     (set_vector 2 1 4 (plus 4 (operand 1 4 4) (operand 0 4 4))))
 
-pub counting_ends : ends_with counting 0 ≡ Some 4 ∷ Some 6 ∷ []
-counting_ends = refl
-
--- one step for the first assignment, two for each of the five tests, three for each sum, two for each next assignment, and the end
-pub counting_steps : counted_steps (first_moves (good_machine counting) (start (good_machine counting))) ≡ 32
-counting_steps = refl
-
 -- repeat (3) n = n + 1: one step fixes the count, one stands before each turn, one ends it
 abbrev pub repeating : FlatDesign
 repeating = one_process (reg_vector 4 0 ∷ []) (Repeat (at 1) (number 4 3) (set_vector 2 0 4 (plus 4 (operand 0 4 4) (number 4 1))))
-
-pub repeating_ends : (ends_with repeating 0 ≡ Some 3 ∷ []) × (counted_steps (first_moves (good_machine repeating) (start (good_machine repeating))) ≡ 12)
-repeating_ends = (refl, refl)
 
 -- a memory of three words: m[1] = 5; q = m[i] with i = 1; r = m[7]; m[7] = 2 writes nothing
 abbrev pub small_memory : Memory
@@ -109,9 +66,6 @@ storing =
     ∷ Blocking (at 4) (WordTarget small_memory (number 4 7) ∷ []) None (number 4 2)
     ∷ []))
 
-pub storing_ends : ends_with storing 0 ≡ Some 0 ∷ Some 5 ∷ Some 0 ∷ Some 5 ∷ None ∷ Some 1 ∷ []
-storing_ends = refl
-
 -- a = #5 b keeps the value that b had before; b changes at 2; c <= #3 1 comes at 3
 abbrev pub delaying : FlatDesign
 delaying = record {
@@ -123,9 +77,6 @@ delaying = record {
       ∷ process false 2 (block (Nonblocking (at 2) (WholeTarget (variable 2 1) ∷ []) 3 (number 1 1) ∷ Delay (at 2) 2 (set_vector 2 1 4 (number 4 9)) ∷ []))
       ∷ [];
 }
-
-pub delaying_ends : (ends_with delaying 2 ≡ Some 0 ∷ Some 9 ∷ Some 0 ∷ []) × (ends_with delaying 4 ≡ Some 0 ∷ Some 9 ∷ Some 1 ∷ []) × (ends_with delaying 5 ≡ Some 7 ∷ Some 9 ∷ Some 1 ∷ [])
-delaying_ends = (refl, refl, refl)
 
 -- parts: v[0:3] runs downwards in index from its most significant bit; v[1:2] = 3; {c, d} = 2'b10; w[9:6] on w[7:0] writes two bits
 abbrev pub rising : Variable
@@ -144,9 +95,6 @@ parting =
     ∷ set_vector 4 4 4 (PartSelect 4 false (record { high = 7; low = 0; pieces = record { object = 3; width = 8 } ∷ [] }) 6 3)
     ∷ []))
 
-pub parting_ends : ends_with parting 0 ≡ Some 2 ∷ Some 1 ∷ Some 0 ∷ Some 192 ∷ Some 8 ∷ []
-parting_ends = refl
-
 -- casez takes the first item whose label matches but for z
 abbrev pub choosing : FlatDesign
 choosing =
@@ -155,9 +103,6 @@ choosing =
     (more_items (terminals (number 2 0 ∷ [])) (set_vector 2 1 4 (number 4 1))
     (more_items (terminals (number 2 3 ∷ Constant 2 false (Z ∷ One ∷ []) ∷ [])) (set_vector 3 1 4 (number 4 2)) no_items))
     (set_vector 4 1 4 (number 4 3)))
-
-pub choosing_ends : ends_with choosing 0 ≡ Some 2 ∷ Some 2 ∷ []
-choosing_ends = refl
 
 -- a finished process does nothing more; wait goes on where its condition becomes true
 abbrev pub waiting : FlatDesign
@@ -171,9 +116,6 @@ waiting = record {
       ∷ [];
 }
 
-pub waiting_ends : (ends_with waiting 3 ≡ Some 0 ∷ Some 0 ∷ []) × (ends_with waiting 9 ≡ Some 1 ∷ Some 6 ∷ [])
-waiting_ends = (refl, refl)
-
 -- a loop that never ends a slot takes each step that it may take
 abbrev pub looping : FlatDesign
 looping = record {
@@ -182,15 +124,6 @@ looping = record {
   nodes = [];
   processes = process true 3 (Wait (at 3) (bit_operand 0) (set_vector 3 1 4 (plus_one 1 4))) ∷ [];
 }
-
-pub looping_goes_on : counted_steps (slot_moves 1000 301 (faulty_machine looping (variable_fault 0 0 true)) (start (faulty_machine looping (variable_fault 0 0 true)))) ≡ 301
-looping_goes_on = refl
-
-pub looping_waits : counted_steps (first_moves (good_machine looping) (start (good_machine looping))) ≡ 2
-looping_waits = refl
-
-pub looping_grade : grade looping (plan 10 (1 ∷ []) (5 ∷ []) []) (variable_fault 1 0 true) ≡ Some (Judged (Detected 5))
-looping_grade = refl
 
 -- Nets of several pieces: w[1:0] follows a, w[3:2] follows b, and a node with two outputs gives {c, d} = a
 
@@ -217,24 +150,9 @@ pieced = record {
       ∷ [];
 }
 
--- q is w, r is w[2], t is w[i] with i = 3, c is a[1], d is a[0]
-pub pieced_ends : ends_with pieced 0 ≡ Some 1 ∷ Some 2 ∷ Some 1 ∷ Some 2 ∷ Some 9 ∷ Some 0 ∷ Some 3 ∷ Some 1 ∷ Some 0 ∷ Some 1 ∷ []
-pieced_ends = refl
-
--- two reads of w and a write; one read of w[2] and a write; two reads of w, one of i and a write; the end
-pub pieced_steps : counted_steps (first_moves (good_machine pieced) (start (good_machine pieced))) ≡ 10
-pieced_steps = refl
-
 -- a write of a: its readers are evaluated and updated, the least first, and the two outputs change in one event
 abbrev pub pieced_change : FlatDesign
 pieced_change = record { objects = pieced.objects; joined = []; nodes = pieced.nodes; processes = process false 1 (set_vector 1 0 2 (number 2 2)) ∷ [] }
-
-pub pieced_moves : first_moves (good_machine pieced_change) (start (good_machine pieced_change))
-    ≡ Happens (Step 0) ∷ Happens (Evaluation 0) ∷ Happens (NetUpdate 0) ∷ Happens (Evaluation 2) ∷ Happens (NetUpdate 2) ∷ Happens (Step 0) ∷ []
-pieced_moves = refl
-
-pub pieced_change_ends : ends_with pieced_change 0 ≡ Some 2 ∷ Some 2 ∷ Some 2 ∷ Some 2 ∷ Some 0 ∷ None ∷ Some 3 ∷ None ∷ Some 1 ∷ Some 0 ∷ []
-pieced_change_ends = refl
 
 -- Other expressions
 
@@ -250,10 +168,6 @@ others =
     ∷ set_bit 5 4 (Unary 1 false ReduceOr (Constant 4 false (Zero ∷ Zero ∷ X ∷ Zero ∷ [])))
     ∷ []))
 
-pub others_end : values_after (good_machine others) [] (first_run (good_machine others) 0) 0
-    ≡ (One ∷ X ∷ []) ∷ bits_of 4 5 ∷ bits_of 4 15 ∷ (Zero ∷ []) ∷ (X ∷ []) ∷ (X ∷ []) ∷ []
-others_end = refl
-
 -- Targets with bits outside
 
 -- assign {a, w[9:6]} = e on w[7:0]: of the value's bits w[7:6] takes the two least, the next two are dropped, and a takes the fifth
@@ -265,5 +179,68 @@ gapped = record {
   processes = [];
 }
 
-pub gapped_ends : ends_with gapped 0 ≡ Some 22 ∷ Some 1 ∷ Some 2 ∷ []
-gapped_ends = refl
+pub record Holds : Type 0 where
+  pub sum_wraps : sum_of (bits_of 4 10) (bits_of 4 7) ≡ bits_of 4 1
+  pub quotients : (quotient_of false (bits_of 8 200) (bits_of 8 7) ≡ bits_of 8 28) × (remainder_of false (bits_of 8 200) (bits_of 8 7) ≡ bits_of 8 4)
+  -- 4'b10x0 against 4'b0xx0 and 4'b1010
+  pub equalities : (logical_equality (Zero ∷ X ∷ Zero ∷ One ∷ []) (Zero ∷ X ∷ X ∷ Zero ∷ []) ≡ Zero) × (logical_equality (Zero ∷ X ∷ Zero ∷ One ∷ []) (Zero ∷ One ∷ Zero ∷ One ∷ []) ≡ X)
+  pub truths : (truth_of (Zero ∷ Zero ∷ X ∷ One ∷ []) ≡ True) × (truth_of (Zero ∷ Zero ∷ X ∷ Zero ∷ []) ≡ Unknown)
+  pub merges : chosen_value Unknown (Zero ∷ One ∷ Zero ∷ One ∷ []) (One ∷ Zero ∷ Zero ∷ One ∷ []) ≡ X ∷ X ∷ Zero ∷ One ∷ []
+  -- gates take z as x
+  pub gates : (gate_bit And (One ∷ Z ∷ []) ≡ X) × (gate_bit And (Zero ∷ Z ∷ []) ≡ Zero) × (gate_bit Or (Zero ∷ One ∷ []) ≡ One) × (gate_bit Nor (Zero ∷ X ∷ []) ≡ X)
+      × (gate_bit Xnor (One ∷ One ∷ []) ≡ One) × (gate_bit Buf (Z ∷ []) ≡ X) × (gate_bit Not (Zero ∷ []) ≡ One)
+  -- 4'b10x1 against the labels 4'b1z01 and 4'b1011: casex ignores x and z on either side, casez z alone, and case nothing
+  pub labels : (label_matches IgnoreXz (One ∷ X ∷ Zero ∷ One ∷ []) (One ∷ Zero ∷ Z ∷ One ∷ []) ≡ true) × (label_matches IgnoreZ (One ∷ X ∷ Zero ∷ One ∷ []) (One ∷ Zero ∷ Z ∷ One ∷ []) ≡ false)
+      × (label_matches IgnoreXz (One ∷ X ∷ Zero ∷ One ∷ []) (One ∷ One ∷ Zero ∷ One ∷ []) ≡ true) × (label_matches Exact (One ∷ X ∷ Zero ∷ One ∷ []) (One ∷ One ∷ Zero ∷ One ∷ []) ≡ false)
+  pub sums_end : ends_with sums 2 ≡ Some 15 ∷ Some 1 ∷ Some 16 ∷ Some 0 ∷ []
+  pub counting_ends : ends_with counting 0 ≡ Some 4 ∷ Some 6 ∷ []
+  -- one step for the first assignment, two for each of the five tests, three for each sum, two for each next assignment, and the end
+  pub counting_steps : counted_steps (first_moves (good_machine counting) (start (good_machine counting))) ≡ 32
+  pub repeating_ends : (ends_with repeating 0 ≡ Some 3 ∷ []) × (counted_steps (first_moves (good_machine repeating) (start (good_machine repeating))) ≡ 12)
+  pub storing_ends : ends_with storing 0 ≡ Some 0 ∷ Some 5 ∷ Some 0 ∷ Some 5 ∷ None ∷ Some 1 ∷ []
+  pub delaying_ends : (ends_with delaying 2 ≡ Some 0 ∷ Some 9 ∷ Some 0 ∷ []) × (ends_with delaying 4 ≡ Some 0 ∷ Some 9 ∷ Some 1 ∷ []) × (ends_with delaying 5 ≡ Some 7 ∷ Some 9 ∷ Some 1 ∷ [])
+  pub parting_ends : ends_with parting 0 ≡ Some 2 ∷ Some 1 ∷ Some 0 ∷ Some 192 ∷ Some 8 ∷ []
+  pub choosing_ends : ends_with choosing 0 ≡ Some 2 ∷ Some 2 ∷ []
+  pub waiting_ends : (ends_with waiting 3 ≡ Some 0 ∷ Some 0 ∷ []) × (ends_with waiting 9 ≡ Some 1 ∷ Some 6 ∷ [])
+  pub looping_goes_on : counted_steps (slot_moves 1000 301 (faulty_machine looping (variable_fault 0 0 true)) (start (faulty_machine looping (variable_fault 0 0 true)))) ≡ 301
+  pub looping_waits : counted_steps (first_moves (good_machine looping) (start (good_machine looping))) ≡ 2
+  pub looping_grade : grade looping (plan 10 (1 ∷ []) (5 ∷ []) []) (variable_fault 1 0 true) ≡ Some (Judged (Detected 5))
+  -- q is w, r is w[2], t is w[i] with i = 3, c is a[1], d is a[0]
+  pub pieced_ends : ends_with pieced 0 ≡ Some 1 ∷ Some 2 ∷ Some 1 ∷ Some 2 ∷ Some 9 ∷ Some 0 ∷ Some 3 ∷ Some 1 ∷ Some 0 ∷ Some 1 ∷ []
+  -- two reads of w and a write; one read of w[2] and a write; two reads of w, one of i and a write; the end
+  pub pieced_steps : counted_steps (first_moves (good_machine pieced) (start (good_machine pieced))) ≡ 10
+  pub pieced_moves : first_moves (good_machine pieced_change) (start (good_machine pieced_change))
+      ≡ Happens (Step 0) ∷ Happens (Evaluation 0) ∷ Happens (NetUpdate 0) ∷ Happens (Evaluation 2) ∷ Happens (NetUpdate 2) ∷ Happens (Step 0) ∷ []
+  pub pieced_change_ends : ends_with pieced_change 0 ≡ Some 2 ∷ Some 2 ∷ Some 2 ∷ Some 2 ∷ Some 0 ∷ None ∷ Some 3 ∷ None ∷ Some 1 ∷ Some 0 ∷ []
+  pub others_end : values_after (good_machine others) [] (first_run (good_machine others) 0) 0
+      ≡ (One ∷ X ∷ []) ∷ bits_of 4 5 ∷ bits_of 4 15 ∷ (Zero ∷ []) ∷ (X ∷ []) ∷ (X ∷ []) ∷ []
+  pub gapped_ends : ends_with gapped 0 ≡ Some 22 ∷ Some 1 ∷ Some 2 ∷ []
+
+pub holds : Holds
+holds = record {
+  sum_wraps = refl;
+  quotients = (refl, refl);
+  equalities = (refl, refl);
+  truths = (refl, refl);
+  merges = refl;
+  gates = (refl, refl, refl, refl, refl, refl, refl);
+  labels = (refl, refl, refl, refl);
+  sums_end = refl;
+  counting_ends = refl;
+  counting_steps = refl;
+  repeating_ends = (refl, refl);
+  storing_ends = refl;
+  delaying_ends = (refl, refl, refl);
+  parting_ends = refl;
+  choosing_ends = refl;
+  waiting_ends = (refl, refl);
+  looping_goes_on = refl;
+  looping_waits = refl;
+  looping_grade = refl;
+  pieced_ends = refl;
+  pieced_steps = refl;
+  pieced_moves = refl;
+  pieced_change_ends = refl;
+  others_end = refl;
+  gapped_ends = refl;
+}

@@ -10,30 +10,29 @@ use Rattle.four_value.specs.declared.logic.Edge.TheVariants.{Pos}
 abbrev pub bits : Bit → Bit → Bit → Bit → LogicValue
 bits a b c d = d ∷ c ∷ b ∷ a ∷ []
 
--- 1010 + 0111 is 0001
-pub sum_wraps : sum_of (bits One Zero One Zero) (bits Zero One One One) ≡ bits Zero Zero Zero One
-sum_wraps = refl
+pub record Holds : Type 0 where
+  -- 1010 + 0111 is 0001
+  pub sum_wraps : sum_of (bits One Zero One Zero) (bits Zero One One One) ≡ bits Zero Zero Zero One
+  -- 200 / 7 is 28, and the remainder is 4
+  pub divides : (quotient_of false (bits_of 8 200) (bits_of 8 7) ≡ bits_of 8 28) × (remainder_of false (bits_of 8 200) (bits_of 8 7) ≡ bits_of 8 4)
+  -- 10x0 == 0xx0 is 0, since one position has 1 against 0; 10x0 == 1010 is x
+  pub compares : (logical_equality (bits One Zero X Zero) (bits Zero X X Zero) ≡ Zero) × (logical_equality (bits One Zero X Zero) (bits One Zero One Zero) ≡ X)
+  -- z001 < 2 is x
+  pub orders_unknown : less_than false (bits Z Zero Zero One) (bits_of 4 2) ≡ X
+  -- 1x00 is true, 0x00 is unknown
+  pub truths : (truth_of (bits One X Zero Zero) ≡ True) × (truth_of (bits Zero X Zero Zero) ≡ Unknown)
+  -- the merge of 1010 and 1001 is 10xx
+  pub merges : merged (bits One Zero One Zero) (bits One Zero Zero One) ≡ bits One Zero X X
+  -- 0 to x is a positive edge
+  pub rises : edge_matches Pos (Zero ∷ []) (X ∷ []) ≡ true
 
--- 200 / 7 is 28, and the remainder is 4
-pub divides : (quotient_of false (bits_of 8 200) (bits_of 8 7) ≡ bits_of 8 28) × (remainder_of false (bits_of 8 200) (bits_of 8 7) ≡ bits_of 8 4)
-divides = (refl, refl)
-
--- 10x0 == 0xx0 is 0, since one position has 1 against 0; 10x0 == 1010 is x
-pub compares : (logical_equality (bits One Zero X Zero) (bits Zero X X Zero) ≡ Zero) × (logical_equality (bits One Zero X Zero) (bits One Zero One Zero) ≡ X)
-compares = (refl, refl)
-
--- z001 < 2 is x
-pub orders_unknown : less_than false (bits Z Zero Zero One) (bits_of 4 2) ≡ X
-orders_unknown = refl
-
--- 1x00 is true, 0x00 is unknown
-pub truths : (truth_of (bits One X Zero Zero) ≡ True) × (truth_of (bits Zero X Zero Zero) ≡ Unknown)
-truths = (refl, refl)
-
--- the merge of 1010 and 1001 is 10xx
-pub merges : merged (bits One Zero One Zero) (bits One Zero Zero One) ≡ bits One Zero X X
-merges = refl
-
--- 0 to x is a positive edge
-pub rises : edge_matches Pos (Zero ∷ []) (X ∷ []) ≡ true
-rises = refl
+pub holds : Holds
+holds = record {
+  sum_wraps = refl;
+  divides = (refl, refl);
+  compares = (refl, refl);
+  orders_unknown = refl;
+  truths = (refl, refl);
+  merges = refl;
+  rises = refl;
+}

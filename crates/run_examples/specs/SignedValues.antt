@@ -12,43 +12,6 @@ use Rattle.four_value.specs.declared.logic.Bit.TheVariants.{Zero, One, X, Z}
 use Rattle.v_design.specs.declared.logic.ObjectKind.TheVariants.{Word}
 use Rattle.four_value.specs.declared.operator.BinaryOperator.TheVariants.{Add, Multiply, Less, ArithmeticShiftRight}
 
--- z001 to 8 bits is zzzzz001, with its sign
-pub extends_by_z : resized true 8 (One ∷ Zero ∷ Zero ∷ Z ∷ []) ≡ One ∷ Zero ∷ Zero ∷ Z ∷ Z ∷ Z ∷ Z ∷ Z ∷ []
-extends_by_z = refl
-
--- at 8 bits -7 / 2 is -3 and -7 % 2 is -1
-pub divides_towards_zero : (quotient_of true (bits_of 8 249) (bits_of 8 2) ≡ bits_of 8 253) × (remainder_of true (bits_of 8 249) (bits_of 8 2) ≡ bits_of 8 255)
-divides_towards_zero = (refl, refl)
-
--- the remainder of 7 by -2 is 1; at 4 bits -8 / -1 wraps, and a division by 0 is unknown
-pub divides_at_the_edge : (remainder_of true (bits_of 4 7) (bits_of 4 14) ≡ bits_of 4 1) × (quotient_of true (bits_of 4 8) (bits_of 4 15) ≡ bits_of 4 8)
-    × (quotient_of true (bits_of 4 8) (bits_of 4 0) ≡ replicate 4 X)
-divides_at_the_edge = (refl, refl, refl)
-
--- -1 is less than 1, 15 isn't
-pub orders_by_sign : (less_than true (bits_of 4 15) (bits_of 4 1) ≡ One) × (less_than false (bits_of 4 15) (bits_of 4 1) ≡ Zero) × (at_most true (bits_of 4 8) (bits_of 4 8) ≡ One)
-orders_by_sign = (refl, refl, refl)
-
--- 4'sb1101 >>> 1 at 8 bits is 11111110
-pub shifts_its_sign_in : value_of no_values (Binary 8 true ArithmeticShiftRight (Constant 8 true (One ∷ Zero ∷ One ∷ One ∷ [])) (number 32 1)) ≡ bits_of 8 254
-shifts_its_sign_in = refl
-
--- an unsigned whole shifts 0 in, and its parts are extended by 0
-pub shifts_zeros_in : value_of no_values (Binary 8 false ArithmeticShiftRight (Constant 8 false (One ∷ Zero ∷ One ∷ One ∷ [])) (number 32 1)) ≡ bits_of 8 6
-shifts_zeros_in = refl
-
--- 1 ? 4'sb1000 : 8'sd1 at 8 bits is 11111000: the signed branch is extended by its top bit
-pub chooses_by_sign : value_of no_values (Conditional 8 true (number 1 1) (Constant 8 true (bits_of 4 8)) (Constant 8 true (bits_of 8 1))) ≡ bits_of 8 248
-chooses_by_sign = refl
-
--- {4'sb1000} + 8'd0 at 8 bits is 00001000: a concatenation is unsigned, and so is the whole
-pub joins_without_sign : value_of no_values (Binary 8 false Add (Concatenation 8 false (terminals (Constant 4 true (bits_of 4 8) ∷ []))) (number 8 0)) ≡ bits_of 8 8
-joins_without_sign = refl
-
--- 0 + v and 0 - v are unknown where v holds z
-pub signs_of_unknowns : (plus_value (One ∷ Z ∷ []) ≡ X ∷ X ∷ []) × (negated (One ∷ Z ∷ []) ≡ X ∷ X ∷ []) × (negated (bits_of 4 1) ≡ bits_of 4 15)
-signs_of_unknowns = (refl, refl, refl)
-
 -- Runs
 
 abbrev pub signed_operand : ℕ → ℕ → ℕ → Expression
@@ -74,9 +37,6 @@ compared_plan = record {
   faults = variable_fault 2 0 false ∷ variable_fault 3 0 true ∷ variable_fault 0 31 false ∷ [];
 }
 
-pub compared_grades : map (grade compared compared_plan) compared_plan.faults ≡ replicate 3 (Some (Judged (Detected 1)))
-compared_grades = refl
-
 -- w = {64'd1, 64'd0} * 2 in 128 bits
 abbrev pub wide : FlatDesign
 wide =
@@ -90,9 +50,6 @@ wide_plan = record {
   watched = bits_watched 0 128;
   faults = variable_fault 0 65 false ∷ variable_fault 0 64 true ∷ [];
 }
-
-pub wide_grades : map (grade wide wide_plan) wide_plan.faults ≡ replicate 2 (Some (Judged (Detected 1)))
-wide_grades = refl
 
 -- repeat (-1) runs zero times; m[-1] reads x and is not written
 abbrev pub two_words : Memory
@@ -110,5 +67,42 @@ negative =
     ∷ set_vector 4 3 4 (WordSelect 4 false two_words minus_one)
     ∷ []))
 
-pub negative_ends : ends_with negative 0 ≡ Some 3 ∷ Some 5 ∷ Some 0 ∷ None ∷ []
-negative_ends = refl
+pub record Holds : Type 0 where
+  -- z001 to 8 bits is zzzzz001, with its sign
+  pub extends_by_z : resized true 8 (One ∷ Zero ∷ Zero ∷ Z ∷ []) ≡ One ∷ Zero ∷ Zero ∷ Z ∷ Z ∷ Z ∷ Z ∷ Z ∷ []
+  -- at 8 bits -7 / 2 is -3 and -7 % 2 is -1
+  pub divides_towards_zero : (quotient_of true (bits_of 8 249) (bits_of 8 2) ≡ bits_of 8 253) × (remainder_of true (bits_of 8 249) (bits_of 8 2) ≡ bits_of 8 255)
+  -- the remainder of 7 by -2 is 1; at 4 bits -8 / -1 wraps, and a division by 0 is unknown
+  pub divides_at_the_edge : (remainder_of true (bits_of 4 7) (bits_of 4 14) ≡ bits_of 4 1) × (quotient_of true (bits_of 4 8) (bits_of 4 15) ≡ bits_of 4 8)
+      × (quotient_of true (bits_of 4 8) (bits_of 4 0) ≡ replicate 4 X)
+  -- -1 is less than 1, 15 isn't
+  pub orders_by_sign : (less_than true (bits_of 4 15) (bits_of 4 1) ≡ One) × (less_than false (bits_of 4 15) (bits_of 4 1) ≡ Zero) × (at_most true (bits_of 4 8) (bits_of 4 8) ≡ One)
+  -- 4'sb1101 >>> 1 at 8 bits is 11111110
+  pub shifts_its_sign_in : value_of no_values (Binary 8 true ArithmeticShiftRight (Constant 8 true (One ∷ Zero ∷ One ∷ One ∷ [])) (number 32 1)) ≡ bits_of 8 254
+  -- an unsigned whole shifts 0 in, and its parts are extended by 0
+  pub shifts_zeros_in : value_of no_values (Binary 8 false ArithmeticShiftRight (Constant 8 false (One ∷ Zero ∷ One ∷ One ∷ [])) (number 32 1)) ≡ bits_of 8 6
+  -- 1 ? 4'sb1000 : 8'sd1 at 8 bits is 11111000: the signed branch is extended by its top bit
+  pub chooses_by_sign : value_of no_values (Conditional 8 true (number 1 1) (Constant 8 true (bits_of 4 8)) (Constant 8 true (bits_of 8 1))) ≡ bits_of 8 248
+  -- {4'sb1000} + 8'd0 at 8 bits is 00001000: a concatenation is unsigned, and so is the whole
+  pub joins_without_sign : value_of no_values (Binary 8 false Add (Concatenation 8 false (terminals (Constant 4 true (bits_of 4 8) ∷ []))) (number 8 0)) ≡ bits_of 8 8
+  -- 0 + v and 0 - v are unknown where v holds z
+  pub signs_of_unknowns : (plus_value (One ∷ Z ∷ []) ≡ X ∷ X ∷ []) × (negated (One ∷ Z ∷ []) ≡ X ∷ X ∷ []) × (negated (bits_of 4 1) ≡ bits_of 4 15)
+  pub compared_grades : map (grade compared compared_plan) compared_plan.faults ≡ replicate 3 (Some (Judged (Detected 1)))
+  pub wide_grades : map (grade wide wide_plan) wide_plan.faults ≡ replicate 2 (Some (Judged (Detected 1)))
+  pub negative_ends : ends_with negative 0 ≡ Some 3 ∷ Some 5 ∷ Some 0 ∷ None ∷ []
+
+pub holds : Holds
+holds = record {
+  extends_by_z = refl;
+  divides_towards_zero = (refl, refl);
+  divides_at_the_edge = (refl, refl, refl);
+  orders_by_sign = (refl, refl, refl);
+  shifts_its_sign_in = refl;
+  shifts_zeros_in = refl;
+  chooses_by_sign = refl;
+  joins_without_sign = refl;
+  signs_of_unknowns = (refl, refl, refl);
+  compared_grades = refl;
+  wide_grades = refl;
+  negative_ends = refl;
+}

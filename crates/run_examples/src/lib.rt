@@ -3,13 +3,19 @@
 //! which every design keeps can be met.
 #![tactic(auto)]
 
-ghost use Rattle.run_examples.specs.Examples.{WorkedExamples};
+ghost use Rattle.run_examples.specs.Examples.{WorkedExamples, WorkedRuns};
 ghost use Rattle.run_examples.specs.Replays.{OtherOrders};
 
 /// The definitions of grades, evaluated on each worked example, give the grades that stand there.
 #[tactic(auto, using(crate::specs::Examples::worked_examples))]
 pub fn examples()
     ensures { WorkedExamples }
+{}
+
+/// Operators on small values, small runs of every statement, and what a faulty machine does that the good one doesn't: the definitions, evaluated, give what stands there.
+#[tactic(auto, using(crate::specs::Examples::worked_runs))]
+pub fn runs()
+    ensures { WorkedRuns }
 {}
 
 /// Other legal orders than the first: they come to the first order's end, or to another one where a glitch is seen or not.
