@@ -1,6 +1,5 @@
 //! Worked designs, on which the definitions of v_design are evaluated: small designs with their plans and the grades of their faults
-//! (specs/Examples and the file of each example), small runs of every statement, other legal orders than the first, and that the rules
-//! which every design keeps can be met.
+//! (specs/Examples and the file of each example), operators and small runs of every statement, and other legal orders than the first.
 #![tactic(auto)]
 
 ghost use Rattle.run_examples.specs.Examples.{WorkedExamples, WorkedRuns};
